@@ -1,0 +1,80 @@
+-- The opcodes of each form.
+use mathlib.Core.Path.{_≡_, refl}
+use mathlib.Core.Bool.{Bool, true, false}
+use mathlib.Core.Logic.{_⊎_, inl, inr}
+use Prim.Native.Nat.{ℕ, _≤_, _<_}
+use native.Mathlib.Omega.{arith}
+use lib.Dec.{eqb, leb}
+use borrow.Author.Tests.{ne-eqb, le-leb, lt-leb, eqb-true, eqb-false, leb-true, leb-false}
+use Rattle.word.specs.Choice.{pick}
+use Rattle.isa.specs.Syllable.{formatOf}
+use Rattle.isa.specs.declared.Format.{Format}
+use Rattle.isa.specs.declared.Format.the-variants.{Still, Two, One, Carry, Test, Select, Load, Store, Copy, Goto, Fork}
+
+-- the opcodes of a form
+abbrev pub Among : Format → ℕ → Type 0
+Among Still o = o ≡ 0
+Among Two o = ((1 ≤ o) × (o ≤ 18)) ⊎ ((24 ≤ o) × (o ≤ 39))
+Among One o = (19 ≤ o) × (o ≤ 22)
+Among Carry o = o ≡ 23
+Among Test o = (40 ≤ o) × (o ≤ 49)
+Among Select o = (50 ≤ o) × (o ≤ 51)
+Among Load o = (52 ≤ o) × (o ≤ 56)
+Among Store o = (57 ≤ o) × (o ≤ 59)
+Among Copy o = o ≡ 60
+Among Goto o = o ≡ 61
+Among Fork o = 62 ≤ o
+
+-- what a test of `formatOf` says of the opcode, on either way
+module _ (o : ℕ) where
+  first : (x y : Format) → (o ≡ 0 → Among x o) → (0 < o → Among y o) → Among (pick (eqb o 0) x y) o
+  first x y p q = go (eqb o 0) refl
+    where
+      go : (b : Bool) → eqb o 0 ≡ b → Among (pick b x y) o
+      go true e = p (eqb-true o 0 e)
+      go false e = q (omega (arith, eqb-false o 0 e))
+
+  step : (n : ℕ) (x y : Format) → (o ≤ n → Among x o) → (n < o → Among y o) → Among (pick (leb o n) x y) o
+  step n x y p q = go (leb o n) refl
+    where
+      go : (b : Bool) → leb o n ≡ b → Among (pick b x y) o
+      go true e = p (leb-true o n e)
+      go false e = q (leb-false o n e)
+
+  pub format-among : Among (formatOf o) o
+  unfolding formatOf
+  format-among =
+      first _ _ (λ k. k) λ h.
+      step 18 _ _ (λ k. inl (h, k)) λ h.
+      step 22 _ _ (λ k. (h, k)) λ h.
+      step 23 _ _ (λ k. omega arith) λ h.
+      step 39 _ _ (λ k. inr (h, k)) λ h.
+      step 49 _ _ (λ k. (h, k)) λ h.
+      step 51 _ _ (λ k. (h, k)) λ h.
+      step 56 _ _ (λ k. (h, k)) λ h.
+      step 59 _ _ (λ k. (h, k)) λ h.
+      step 60 _ _ (λ k. omega arith) λ h.
+      step 61 _ _ (λ k. omega arith) λ h. h
+
+-- an opcode above m passes no test below it
+module _ (o m : ℕ) (h : m < o) where
+  not-zero : eqb o 0 ≡ false
+  not-zero = ne-eqb o 0 (λ e. omega arith)
+
+  beyond : (n : ℕ) → leb n m ≡ true → leb o n ≡ false
+  beyond n e = lt-leb o n (omega (arith, leb-true n m e))
+
+pub format-of : (f : Format) (o : ℕ) → Among f o → formatOf o ≡ f
+unfolding formatOf
+format-of Still o h = rw h
+format-of Two o (inl h) = simp (not-zero o 0 (h .0), le-leb o 18 (h .1))
+format-of Two o (inr h) = simp (not-zero o 23 (h .0), beyond o 23 (h .0), le-leb o 39 (h .1))
+format-of One o h = simp (not-zero o 18 (h .0), beyond o 18 (h .0), le-leb o 22 (h .1))
+format-of Carry o h = rw h
+format-of Test o h = simp (not-zero o 39 (h .0), beyond o 39 (h .0), le-leb o 49 (h .1))
+format-of Select o h = simp (not-zero o 49 (h .0), beyond o 49 (h .0), le-leb o 51 (h .1))
+format-of Load o h = simp (not-zero o 51 (h .0), beyond o 51 (h .0), le-leb o 56 (h .1))
+format-of Store o h = simp (not-zero o 56 (h .0), beyond o 56 (h .0), le-leb o 59 (h .1))
+format-of Copy o h = rw h
+format-of Goto o h = rw h
+format-of Fork o h = simp (not-zero o 61 h, beyond o 61 h)

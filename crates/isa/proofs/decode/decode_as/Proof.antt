@@ -1,0 +1,58 @@
+-- What the arm of a form makes is its line in `decodeAs`.
+use borrow.Author.Needs.{needs}
+use Rattle.isa.proofs.Arms.{fields}
+use Rattle.isa.proofs.decode.decode_as.Statement.{statement}
+use Rattle.isa.proofs.decode.decode_as.Tie as tie
+
+pub decode-as-spec : {M : Type 1} → statement M
+decode-as-spec =
+    tie.close
+    (tie.spec
+    (λ c κs. search needs)
+    (λ c κs. search needs)
+    (λ c κs. search needs)
+    (λ c κs. search needs)
+    (λ c κs. search needs)
+    (λ c. search needs)
+    (λ c κs. search needs)
+    (λ c κs. search needs)
+    (λ c. search needs)
+    (λ c κs. search needs)
+    (λ c. search needs)
+    (λ c κs. search needs)
+    (λ c. search needs)
+    (λ c κs. search needs)
+    (λ c κs. search needs)
+    (λ c. search needs)
+    (λ c κs. search needs)
+    (λ c κs. search needs)
+    (λ c. search needs)
+    (λ c κs. search needs)
+    (λ c. search needs)
+    (λ c κs. search needs)
+    (λ c κs. search needs)
+    (λ c. search needs)
+    (λ c κs. search needs)
+    (λ c κs. search needs)
+    (λ c. search needs)
+    (λ c κs. search needs)
+    (λ c κs. search needs)
+    (λ c κs. search needs)
+    (λ c. search needs)
+    (λ c κs. search needs)
+    (λ c κs. search needs)
+    (λ c. search needs)
+    (λ c κs. search needs)
+    (λ c κs. search needs)
+    (λ c κs. search needs)
+    (λ c. search fields)
+    (λ c. search fields)
+    (λ c. search fields)
+    (λ c. search fields)
+    (λ c. search fields)
+    (λ c. search fields)
+    (λ c. search fields)
+    (λ c. search fields)
+    (λ c. search fields)
+    (λ c. search fields)
+    (λ c. search fields))

@@ -1,0 +1,7 @@
+-- The delays stand after the last cluster.
+use borrow.Author.Needs.{needs}
+use Rattle.isa.proofs.tables.delay.Statement.{statement}
+use Rattle.isa.proofs.tables.delay.Tie as tie
+
+pub delay-spec : {M : Type 1} → statement M
+delay-spec = tie.close (tie.spec (λ c κs. search needs) (λ c κs. search needs) (λ c. search needs) (λ c. cc))

@@ -1,0 +1,6 @@
+pub mod Syllable
+pub mod Zero
+pub mod Table
+pub mod Decode
+pub mod Program
+pub mod Touch

@@ -1,0 +1,4 @@
+mod Product
+mod Rows
+mod Signed
+pub mod Laws

@@ -1,0 +1,17 @@
+-- Each arm by its opcode, the last by no opcode of the others.
+use borrow.Author.Needs.{needs}
+use borrow.Author.Tests.{ne-eqb}
+use Rattle.ops.specs.Value.{stored}
+use Rattle.ops.proofs.memory.stored.Statement.{statement}
+use Rattle.ops.proofs.memory.stored.Tie as tie
+
+pub stored-spec : {M : Type 1} → statement M
+unfolding stored
+stored-spec =
+    tie.close
+    (tie.spec
+    (λ c κs. search needs)
+    (λ c κs. search needs)
+    (λ c. rw (c .before .match .keys1) (c .zxth .ensures))
+    (λ c. rw (c .before .match .keys2) (c .zxtb .ensures))
+    (λ c. let r = c .match .rest in simp (ne-eqb _ _ (r .0 .1), ne-eqb _ _ (r .1))))

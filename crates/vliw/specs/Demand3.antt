@@ -1,0 +1,54 @@
+-- Demand 3 of any machine: landings and the order of writes cannot be seen.
+use mathlib.Core.Path.{_≡_}
+use mathlib.Core.Logic.{_≢_}
+use mathlib.Core.List.{List, List·Memᴰ, Pairwise, map}
+use mathlib.Core.Bool.{Bool, true}
+use lib.ListN.{getD}
+use Prim.Native.Nat.{ℕ, _≤_}
+use Rattle.vliw.specs.Run.{run, viewRan}
+use Rattle.vliw.specs.Cell.{at, landed}
+use Rattle.vliw.specs.Machine.{Dest, fault, go, Instruction, uses, AnyOrder, State, step}
+use Rattle.vliw.specs.Plain.{Plain, stepPlain}
+use Rattle.vliw.specs.Schedule.{Passes}
+
+-- the state once everything in flight has landed
+abbrev pub settled : {Memory Store : Type 0} → State Memory Store → Plain Memory
+settled s = record { place = s .place; registers = map landed (s .registers); memory = s .memory }
+
+-- two stores of which neither sees the other
+abbrev pub Commute : {Memory Store : Type 0} → (Store → Memory → Memory) → Store → Store → Type 0
+Commute {Memory = Memory} store a b = (m : Memory) → store b (store a m) ≡ store a (store b m)
+
+-- what loading gives the machine; `starts i`: i is an instruction's first syllable
+pub record Loaded {Memory Store : Type 0} (store : Store → Memory → Memory) (program : ℕ → Instruction Memory Store) (starts : ℕ → Bool) : Type 0 where
+  pub onward : (i j : ℕ) → starts i ≡ true → List·Memᴰ j (program i .nexts) → starts j ≡ true
+  pub delays : (i : ℕ) (d : Dest) → starts i ≡ true → List·Memᴰ d (program i .dests) → 1 ≤ d .delay
+  pub apart : (i : ℕ) → starts i ≡ true → Pairwise (λ (d e : Dest). d .reg ≢ e .reg) (program i .dests)
+  pub goes : (i : ℕ) (f : List ℕ) (m : Memory) (vs : List ℕ) (ss : List Store) (j : ℕ)
+      → starts i ≡ true → program i .acts f m ≡ go vs ss j → List·Memᴰ j (program i .nexts)
+  pub commutes : (i : ℕ) (f : List ℕ) (m : Memory) (vs : List ℕ) (ss : List Store) (j : ℕ)
+      → starts i ≡ true → program i .acts f m ≡ go vs ss j → Pairwise (Commute store) ss
+  pub faults : (i : ℕ) (f : List ℕ) (m : Memory) → starts i ≡ true → program i .acts f m ≢ fault 11
+  pub reading : (i : ℕ) (f g : List ℕ) (m : Memory) → starts i ≡ true
+      → ((r : ℕ) → List·Memᴰ r (program i .reads) → getD f r 0 ≡ getD g r 0) → program i .acts f m ≡ program i .acts g m
+
+abbrev pub Scheduled : {Memory Store : Type 0} → (ℕ → Instruction Memory Store) → (ℕ → Bool) → Type 0
+Scheduled program starts = Passes starts (λ i. program i .dests) (λ i. program i .nexts) (λ i. uses (program i))
+
+-- a start with nothing in flight; the results of each instruction, and its stores, are written in any order
+pub record Quiet {Memory Store : Type 0} (starts : ℕ → Bool) (s : State Memory Store) : Type 0 where
+  pub place : starts (s .place) ≡ true
+  pub valid : (r : ℕ) → at (s .registers) r .landing ≤ at (s .registers) r .busy
+  pub quiet : (r : ℕ) → at (s .registers) r .busy ≡ 0
+  pub orders : AnyOrder (s .orders)
+
+-- For every choice of landings (s .landing) and of orders (s .orders) the run is the plain machine's, and no run stops for a schedule fault.
+pub record Unseen {Memory Store : Type 0} (store : Store → Memory → Memory) (program : ℕ → Instruction Memory Store) (s : State Memory Store) (n : ℕ) : Type 0 where
+  pub same : viewRan settled (run (step store program) n s) ≡ run (stepPlain store program) n (settled s)
+  pub unfaulted : run (step store program) n s .number ≢ 11
+
+abbrev pub Demand3 : (Memory Store : Type 0) → Type 0
+Demand3 Memory Store =
+    (store : Store → Memory → Memory) (program : ℕ → Instruction Memory Store) (starts : ℕ → Bool)
+    → Loaded store program starts → Scheduled program starts
+    → (s : State Memory Store) → Quiet starts s → (n : ℕ) → Unseen store program s n

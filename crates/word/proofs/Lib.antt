@@ -1,0 +1,4 @@
+pub mod Choice
+pub mod Lowest
+pub mod Lists
+pub mod Bytes

@@ -1,0 +1,151 @@
+//! Refusal 6: widths, counts and a second control syllable.
+
+use super::{any_part, Break, Case};
+use crate::generate::draft::{clusters, Part, NOP, STOP};
+use crate::generate::random::Random;
+use second::syllable::{Class, Syllable};
+
+pub const BREAKS: [Break; 11] = [
+    |random, case| {
+        // Too many syllables by nops alone.
+        let (instruction, part) = any_part(random, &case.draft);
+        let cluster = clusters(&case.draft.instructions[instruction])[part];
+        let limit = case.width(cluster);
+        let parts = &mut case.draft.instructions[instruction];
+        let mut count = clusters(parts).iter().filter(|&&other| other == cluster).count();
+        while count <= limit {
+            parts.insert(part + 1, Part::new(false, NOP));
+            count += 1;
+        }
+    },
+    |random, case| tighten(random, case, 0),
+    |random, case| tighten(random, case, 1),
+    |random, case| tighten(random, case, 2),
+    |random, case| tighten(random, case, 3),
+    |random, case| tighten(random, case, 4),
+    copies,
+    copies,
+    copies,
+    two_controls,
+    two_controls,
+];
+
+/// How many of an instruction's syllables a cluster needs, in all and by class; a copy counts in both clusters.
+fn usage(parts: &[Part], c: usize) -> Vec<[u8; 5]> {
+    let mut usage = vec![[0; 5]; c];
+    for (part, cluster) in parts.iter().zip(clusters(parts)) {
+        if cluster >= c {
+            continue;
+        }
+        usage[cluster][0] += 1;
+        let syllable = Syllable(part.word);
+        match syllable.class() {
+            Class::Alu => usage[cluster][1] += 1,
+            Class::Mul => usage[cluster][2] += 1,
+            Class::Mem => usage[cluster][3] += 1,
+            Class::Copy => {
+                usage[cluster][4] += 1;
+                let source = syllable.copy_source() as usize;
+                if source < c {
+                    usage[source][4] += 1;
+                }
+            }
+            _ => {}
+        }
+    }
+    usage
+}
+
+/// Sets a count one below what some instruction needs.
+fn tighten(random: &mut Random, case: &mut Case, which: usize) {
+    let least = if which == 0 { 1 } else { 0 };
+    let mut needs = Vec::new();
+    for instruction in &case.draft.instructions {
+        for (cluster, used) in usage(instruction, case.c()).iter().enumerate() {
+            if used[which] > least {
+                needs.push((cluster, used[which] - 1));
+            }
+        }
+    }
+    if !needs.is_empty() {
+        let (cluster, count) = random.pick(&needs);
+        case.table[1 + 5 * cluster + which] = count;
+    }
+}
+
+/// Sets every width and count to exactly what the program needs; it still loads.
+pub fn fit_exactly(case: &mut Case) {
+    let mut most = vec![[1, 0, 0, 0, 0]; case.c()];
+    for instruction in &case.draft.instructions {
+        for (cluster, used) in usage(instruction, case.c()).iter().enumerate() {
+            for which in 0..5 {
+                most[cluster][which] = most[cluster][which].max(used[which]);
+            }
+        }
+    }
+    for (cluster, counts) in most.iter().enumerate() {
+        case.table[1 + 5 * cluster..6 + 5 * cluster].copy_from_slice(counts);
+    }
+}
+
+/// Adds an instruction of copies, too many for a cluster they go to, come from, or both.
+fn copies(random: &mut Random, case: &mut Case) {
+    let c = case.c();
+    if c < 2 {
+        return;
+    }
+    let to = random.index(c);
+    let from = (to + 1 + random.index(c - 1)) % c;
+    let beyond = (from + 1 + random.index(c - 1)) % c;
+    let copy = |t: u32, source: usize| 60 << 24 | t << 18 | source as u32;
+    let mut words = vec![vec![NOP]; c];
+    let count = random.between(1, 2);
+    words[to] = (1..=count).map(|t| copy(t, from)).collect();
+    let short = match random.below(3) {
+        0 => to,
+        1 => from,
+        _ => {
+            // The source is itself a destination: neither way alone is too much.
+            words[from] = (1..=count).map(|t| copy(t, beyond)).collect();
+            from
+        }
+    };
+    let both_ways = words[from].len() > 1 || words[from][0] != NOP;
+    for cluster in 0..c {
+        case.table[1 + 5 * cluster] = case.table[1 + 5 * cluster].max(2);
+        case.table[5 + 5 * cluster] = 4;
+    }
+    case.table[5 + 5 * short] = if both_ways { count as u8 } else { count as u8 - 1 };
+    let parts: Vec<Part> = words
+        .iter()
+        .flat_map(|cluster| cluster.iter().enumerate().map(|(index, &word)| Part::new(index == 0, word)))
+        .collect();
+    let at = random.index(case.draft.instructions.len());
+    case.draft.insert(at, parts);
+}
+
+fn two_controls(random: &mut Random, case: &mut Case) {
+    let (instruction, _) = any_part(random, &case.draft);
+    let many = case.draft.instructions.len();
+    let width = case.width(0);
+    let parts = &mut case.draft.instructions[instruction];
+    let second_cluster = clusters(parts).iter().position(|&cluster| cluster > 0).unwrap_or(parts.len());
+    let mut end = second_cluster;
+    // Makes room for two in cluster 0.
+    while end > 1 && end + 2 > width.max(3) {
+        parts.remove(end - 1);
+        end -= 1;
+    }
+    for _ in 0..2 {
+        let opcode = random.pick(&[0, 61, 61, 62, 63]);
+        let word = if opcode == 0 { STOP } else { opcode << 24 };
+        let at = random.between(1, end as u32) as usize;
+        let aim = (opcode != 0).then(|| random.index(many));
+        parts.insert(at, Part { opens: false, word, aim });
+        end += 1;
+    }
+    // Mostly the width is no second cause.
+    if random.percent(70) {
+        case.table[1] = 8;
+    }
+}

@@ -1,0 +1,87 @@
+//! Programs that load and check passes, from quiet starts: no landing list may make a difference.
+
+use crate::generate::random::Random;
+use crate::generate::{checks, draft, runs, schedule, states};
+use crate::requests::{Request, Run};
+use second::load::{load, Lengths};
+use second::plain::Plain;
+use second::state::State;
+
+/// So many landing lists for each program.
+const LISTS: u64 = 4;
+
+/// The requests of so many programs; those of one program differ in their landing lists only.
+pub fn requests(seed: u64, count: u64) -> impl Iterator<Item = Request> + Send {
+    (0..count).flat_map(move |index| {
+        let mut random = Random::new(seed, index);
+        let first = passing(&mut random);
+        (0..LISTS).map(move |list| {
+            let landing = match list {
+                0 => first.landing.clone(),
+                // Everything lands at once.
+                1 => vec![0; 4000],
+                _ => {
+                    let length = random.pick(&[5, 40, 4000]);
+                    random.bytes(length)
+                }
+            };
+            Request::Run(Run { landing, ..first.clone() })
+        })
+    })
+}
+
+fn passing(random: &mut Random) -> Run {
+    let memory = runs::memory_length(random).min(4096);
+    let (table, draft) = loop {
+        let table = checks::table(random);
+        let mut draft = runs::program(random, &table, memory);
+        if schedule::repair(&table, &mut draft, 400) {
+            break (table, draft);
+        }
+    };
+    let state = states::quiet(random, &draft.places(), memory);
+    finished(random, table, &draft, state, memory)
+}
+
+fn finished(random: &mut Random, table: Vec<u8>, draft: &draft::Draft, state: State, memory: usize) -> Run {
+    let program = draft.bytes();
+    let memory = random.bytes(memory);
+    let landing = runs::landing(random);
+    let (parsed, loaded) = load(&table, &program, Lengths::of_load(12)).expect("a program that loads");
+    let n = runs::number_of_instructions(random, &parsed, &loaded, &state, &memory, &landing);
+    Run { table, program, state: state.image(), memory, landing, n, room: random.bytes(12) }
+}
+
+/// Number, count, place, memory and landed registers as on the plain machine, and never 11.
+pub fn as_plain(request: &Request, answer: &[u8]) -> Option<String> {
+    let Request::Run(call) = request else { return Some("no run\n".to_string()) };
+    let word = |at: usize| u32::from_be_bytes([answer[at], answer[at + 1], answer[at + 2], answer[at + 3]]);
+    let mut state = State::from_image(&answer[16..16 + call.state.len()]);
+    let memory = &answer[16 + call.state.len()..];
+
+    let (table, program) = load(&call.table, &call.program, Lengths::of_load(12)).expect("a program that loads");
+    let start = State::from_image(&call.state);
+    let mut plain =
+        Plain { place: start.place, values: start.cells.map(|cell| cell.value), memory: call.memory.clone() };
+    let expected = plain.run(&table, &program, call.n);
+
+    let (number, count, place) = (word(4), word(8), word(12));
+    let wrong = |what: &str| Some(format!("{what}: plain {expected:?}, answered {number} {count} {place}\n"));
+    if number == 11 {
+        return wrong("number 11 although check passes");
+    }
+    if word(0) != number || state.place != place {
+        return wrong("the answer does not agree with itself");
+    }
+    if (number, count, place) != (expected.number, expected.count, expected.place) {
+        return wrong("number, count or place");
+    }
+    if memory != plain.memory {
+        return wrong("memory");
+    }
+    state.land_everything();
+    if state.cells.map(|cell| cell.value) != plain.values {
+        return wrong("landed registers");
+    }
+    None
+}

@@ -1,0 +1,132 @@
+//! Compares this program with another over a process boundary, and answers requests itself.
+
+mod compare;
+mod describe;
+mod generate;
+mod landings;
+mod requests;
+mod tally;
+
+use generate::Kind;
+use requests::Request;
+use std::io::{self, BufReader, BufWriter, Write};
+use std::process::ExitCode;
+use tally::Tally;
+
+const USAGE: &str = "\
+second KIND --seed S --count N [--first I] [-- COMMAND ..]
+    compares a fixed set of calls and N random ones after it with the answers of the
+    command, byte by byte; without a command this program answers itself.
+    KIND is values, load, check, run or text; --first leaves out the calls before the I-th
+second landings --seed S --count N [-- COMMAND ..]
+    runs N programs that check passes with several landing lists each and
+    compares them with the plain machine
+second record KIND --seed S --count N [--first I] [--only I] > requests
+    writes the N random requests, with --first 0 the fixed set before them, with --only
+    just the I-th, all counted from 0
+second expect < requests > answers
+second replay < requests > answers
+    answers requests as this program does
+";
+
+/// What stands on the command line after the subcommand.
+struct Options {
+    seed: u64,
+    count: u64,
+    first: Option<u64>,
+    only: Option<u64>,
+    command: Vec<String>,
+}
+
+fn options(arguments: &[String]) -> Result<Options, String> {
+    let mut options = Options { seed: 1, count: 1000, first: None, only: None, command: Vec::new() };
+    let mut rest = arguments.iter();
+    while let Some(name) = rest.next() {
+        if name == "--" {
+            options.command = rest.cloned().collect();
+            break;
+        }
+        let value = rest.next().and_then(|value| value.parse::<u64>().ok());
+        let value = value.ok_or_else(|| format!("{name} needs a number"))?;
+        match name.as_str() {
+            "--seed" => options.seed = value,
+            "--count" => options.count = value,
+            "--first" => options.first = Some(value),
+            "--only" => options.only = Some(value),
+            _ => return Err(format!("no option {name}")),
+        }
+    }
+    Ok(options)
+}
+
+fn main() -> ExitCode {
+    let arguments: Vec<String> = std::env::args().skip(1).collect();
+    match command(&arguments) {
+        Ok(true) => ExitCode::SUCCESS,
+        Ok(false) => ExitCode::FAILURE,
+        Err(message) => {
+            eprintln!("{message}");
+            ExitCode::from(2)
+        }
+    }
+}
+
+/// True if all went well, false at a difference.
+fn command(arguments: &[String]) -> Result<bool, String> {
+    let words: Vec<&str> = arguments.iter().map(String::as_str).collect();
+    match words.as_slice() {
+        [] | ["--help"] | ["-h"] => {
+            print!("{USAGE}");
+            Ok(true)
+        }
+        ["expect"] | ["replay"] => replay().map(|()| true).map_err(|error| error.to_string()),
+        ["record", name, ..] => {
+            let kind = Kind::named(name).ok_or_else(|| format!("no kind {name}\n{USAGE}"))?;
+            record(kind, &options(&arguments[2..])?).map(|()| true).map_err(|error| error.to_string())
+        }
+        ["landings", ..] => landed(&options(&arguments[1..])?),
+        [name, ..] => {
+            let kind = Kind::named(name).ok_or_else(|| format!("no subcommand {name}\n{USAGE}"))?;
+            compared(kind, &options(&arguments[1..])?)
+        }
+    }
+}
+
+fn compared(kind: Kind, options: &Options) -> Result<bool, String> {
+    let seed = options.seed;
+    let indices = options.first.unwrap_or(0)..kind.fixed() + options.count;
+    let requests = indices.map(move |index| (index, kind.request(seed, index)));
+    let mut tally = Tally::default();
+    let good = compare::compare(requests, &options.command, &compare::same_bytes, &mut tally)?;
+    tally.print();
+    Ok(good)
+}
+
+fn landed(options: &Options) -> Result<bool, String> {
+    let requests = (0..).zip(landings::requests(options.seed, options.count));
+    let mut tally = Tally::default();
+    let good = compare::compare(requests, &options.command, &landings::as_plain, &mut tally)?;
+    tally.print();
+    Ok(good)
+}
+
+fn record(kind: Kind, options: &Options) -> io::Result<()> {
+    let mut output = BufWriter::new(io::stdout().lock());
+    let indices = match options.only {
+        Some(only) => only..only + 1,
+        None => options.first.unwrap_or(kind.fixed())..kind.fixed() + options.count,
+    };
+    for index in indices {
+        kind.request(options.seed, index).write(&mut output)?;
+    }
+    output.flush()
+}
+
+fn replay() -> io::Result<()> {
+    let mut input = BufReader::new(io::stdin().lock());
+    let mut output = BufWriter::new(io::stdout().lock());
+    while let Some(request) = Request::read(&mut input)? {
+        output.write_all(&request.answer())?;
+    }
+    output.flush()
+}

@@ -1,0 +1,104 @@
+//! How runs ended, what they executed and what they started from.
+
+use super::refusals::refused;
+use super::roles::roles;
+use super::Tally;
+use crate::requests::Run;
+use second::load::{load, Lengths};
+use second::program::Instruction;
+use second::run::{at, run, step, Landings, PAUSED, STOPPED};
+use second::state::State;
+use second::values;
+
+pub fn ran(tally: &mut Tally, call: &Run) {
+    let (mut image, mut memory) = (call.state.clone(), call.memory.clone());
+    let outcome = run(&call.table, &call.program, &mut image, &mut memory, &call.landing, call.n, call.room.len());
+    let answer = match outcome {
+        Ok(answer) => answer,
+        Err(refusal) if matches!(refusal.number, 2 | 10) => return tally.count(refused(refusal, &call.program)),
+        Err(refusal) => return tally.count(format!("{:02} as in load", refusal.number)),
+    };
+    let start = State::from_image(&call.state);
+    let in_flight = start.cells.iter().filter(|cell| cell.busy > 0).count();
+    tally.count(format!("start: {}", if in_flight > 0 { "results in flight" } else { "quiet" }));
+    tally.count(format!("n: {}", class(u64::from(call.n), &[0, 1, 2, 40, 2000])));
+    tally.count(format!("landing bytes: {}", class(call.landing.len() as u64, &[0, 1, 8, 300])));
+    tally.count(format!("memory bytes: {}", class(call.memory.len() as u64, &[0, 16, 256, 4096, 65_535])));
+    match answer.number {
+        PAUSED => {
+            tally.count("00 paused".to_string());
+            if State::from_image(&image).cells.iter().any(|cell| cell.landing > 0) {
+                tally.count("00 paused with results on their way".to_string());
+            }
+        }
+        STOPPED => tally.count(format!("FF stopped after {}", class(u64::from(answer.count), &[0, 10]))),
+        number => tally.count(format!("{number} fault after {}", class(u64::from(answer.count), &[0, 10]))),
+    }
+    let (table, program) = load(&call.table, &call.program, Lengths::of_load(12)).expect("a program that ran");
+    let (mut state, mut memory) = (start, call.memory.clone());
+    let mut landings = Landings::new(&call.landing);
+    for _ in 0..answer.count {
+        for placed in &at(&program, &state).syllables {
+            tally.count(format!("executed opcode {:02}", placed.syllable.opcode()));
+        }
+        let _ = step(&table, &program, &mut state, &mut memory, &mut landings);
+    }
+    if matches!(answer.number, 11..=14) {
+        let fault = step(&table, &program, &mut state, &mut memory, &mut landings).expect_err("the fault again");
+        let problems = problems(at(&program, &state), &state, memory.len());
+        tally.count(format!("{} {}; {problems}", fault.number, fault.cause));
+        if let [role] = busy_roles(at(&program, &state), &state)[..] {
+            tally.count(format!("11 only by {role}"));
+        }
+    }
+}
+
+/// The roles in which the instruction names busy registers.
+fn busy_roles(instruction: &Instruction, state: &State) -> Vec<&'static str> {
+    let mut named = [instruction.reads(), instruction.destinations()].concat();
+    named.retain(|&register| state.cell(register).busy > 0);
+    let mut roles: Vec<&str> = named.iter().flat_map(|&register| roles(instruction, register)).collect();
+    roles.sort();
+    roles.dedup();
+    roles
+}
+
+/// The first limit a number does not exceed.
+fn class(number: u64, limits: &[u64]) -> String {
+    match limits.iter().position(|&limit| number <= limit) {
+        None => format!("over {}", limits[limits.len() - 1]),
+        Some(0) => format!("{}", limits[0]),
+        Some(index) if limits[index] == limits[index - 1] + 1 => format!("{}", limits[index]),
+        Some(index) => format!("up to {}", limits[index]),
+    }
+}
+
+/// The first two bad accesses in their order, and whether stores share a byte besides.
+fn problems(instruction: &Instruction, state: &State, memory: usize) -> String {
+    let mut bad = Vec::new();
+    let mut stores: Vec<(u64, u64)> = Vec::new();
+    let mut share = false;
+    for placed in &instruction.syllables {
+        let syllable = placed.syllable;
+        if !syllable.is_load() && !syllable.is_store() {
+            continue;
+        }
+        let base = state.cell(syllable.s1(placed.cluster).expect("a base")).value;
+        let address = u64::from(values::address(base, syllable.offset()));
+        let size = values::access_size(syllable.opcode()) as u64;
+        let (misaligned, beyond) = (address % size != 0, address + size > memory as u64);
+        match (misaligned, beyond) {
+            (true, true) => bad.push("12+13"),
+            (true, false) => bad.push("12"),
+            (false, true) => bad.push("13"),
+            (false, false) => {}
+        }
+        if syllable.is_store() {
+            share |= stores.iter().any(|&(other, length)| other < address + size && address < other + length);
+            stores.push((address, size));
+        }
+    }
+    bad.truncate(2);
+    let bad = if bad.is_empty() { "no bad access".to_string() } else { bad.join(" then ") };
+    format!("{bad}{}", if share { ", stores share" } else { "" })
+}

@@ -1,0 +1,316 @@
+//! Refusals 1 to 8. Each number is tested over the whole input before the next, lowest place first.
+
+use crate::answer::Refusal;
+use crate::program::{Instruction, Program};
+use crate::syllable::{Class, Syllable};
+use crate::table::{self, Table};
+
+pub const MOST_SYLLABLES: usize = 4096;
+pub const MOST_MEMORY: usize = 65_536;
+pub const IMAGE_SIZE: usize = 2884;
+pub const ROOM_SIZE: usize = 12;
+
+/// The lengths refusal 2 looks at; load and check take no memory and no state image.
+pub struct Lengths {
+    pub memory: Option<usize>,
+    pub image: Option<usize>,
+    pub room: usize,
+}
+
+impl Lengths {
+    pub fn of_load(room: usize) -> Lengths {
+        Lengths { memory: None, image: None, room }
+    }
+}
+
+pub fn load(table: &[u8], program: &[u8], lengths: Lengths) -> Result<(Table, Program), Refusal> {
+    let table = table::read(table)?;
+    number_2(program.len(), lengths)?;
+    let syllables = syllables(program);
+    number_3(&syllables)?;
+    number_4(&syllables)?;
+    let program = Program::split(&syllables);
+    number_5(&table, &program)?;
+    number_6(&table, &program)?;
+    number_7(&program)?;
+    number_8(&program)?;
+    Ok((table, program))
+}
+
+fn syllables(program: &[u8]) -> Vec<Syllable> {
+    let word = |bytes: &[u8]| u32::from_be_bytes([bytes[0], bytes[1], bytes[2], bytes[3]]);
+    program.chunks_exact(4).map(|bytes| Syllable(word(bytes))).collect()
+}
+
+fn number_2(program: usize, lengths: Lengths) -> Result<(), Refusal> {
+    let good_program = program % 4 == 0 && (1..=MOST_SYLLABLES).contains(&(program / 4));
+    if !good_program {
+        return Err(Refusal::new(2, 0, "program size"));
+    }
+    if lengths.memory.is_some_and(|length| length > MOST_MEMORY) {
+        return Err(Refusal::new(2, 1, "memory size"));
+    }
+    if lengths.image.is_some_and(|length| length != IMAGE_SIZE) {
+        return Err(Refusal::new(2, 2, "state image size"));
+    }
+    if lengths.room != ROOM_SIZE {
+        return Err(Refusal::new(2, 3, "room size"));
+    }
+    Ok(())
+}
+
+fn number_3(syllables: &[Syllable]) -> Result<(), Refusal> {
+    let last = syllables.len() - 1;
+    if !syllables[last].ends_instruction() {
+        return Err(Refusal::new(3, last as u32, "last syllable lacks bit 31"));
+    }
+    Ok(())
+}
+
+fn number_4(syllables: &[Syllable]) -> Result<(), Refusal> {
+    for (place, syllable) in syllables.iter().enumerate() {
+        if let Some(cause) = syllable.stray_bits() {
+            return Err(Refusal::new(4, place as u32, cause));
+        }
+    }
+    Ok(())
+}
+
+fn number_5(table: &Table, program: &Program) -> Result<(), Refusal> {
+    let c = table.clusters.len() as u32;
+    for instruction in &program.instructions {
+        if !instruction.syllables[0].syllable.starts_cluster() {
+            return Err(Refusal::new(5, instruction.place, "bit 30 missing"));
+        }
+        for placed in &instruction.syllables {
+            let syllable = placed.syllable;
+            if placed.cluster >= c {
+                return Err(Refusal::new(5, placed.place, "more clusters than C"));
+            }
+            if syllable.class() == Class::Control && placed.cluster != 0 {
+                return Err(Refusal::new(5, placed.place, "control outside cluster 0"));
+            }
+            if syllable.class() == Class::Copy && syllable.copy_source() == placed.cluster {
+                return Err(Refusal::new(5, placed.place, "copy from its own cluster"));
+            }
+            if syllable.class() == Class::Copy && syllable.copy_source() >= c {
+                return Err(Refusal::new(5, placed.place, "copy from a cluster not below C"));
+            }
+        }
+    }
+    Ok(())
+}
+
+fn number_6(table: &Table, program: &Program) -> Result<(), Refusal> {
+    for instruction in &program.instructions {
+        for (cluster, limits) in table.clusters.iter().enumerate() {
+            let cluster = cluster as u32;
+            let mine = || instruction.syllables.iter().filter(|placed| placed.cluster == cluster);
+            let of_class = |class| mine().filter(|placed| placed.syllable.class() == class).count() as u32;
+            // A copy counts for COPY in the cluster it goes to and in the one it comes from.
+            let copies_out = instruction
+                .syllables
+                .iter()
+                .filter(|placed| placed.syllable.class() == Class::Copy)
+                .filter(|placed| placed.syllable.copy_source() == cluster)
+                .count() as u32;
+            let refused = |cause| Err(Refusal::new(6, instruction.place, cause));
+            if mine().count() as u32 > limits.width {
+                return refused("width");
+            }
+            if of_class(Class::Alu) > limits.alu {
+                return refused("ALU");
+            }
+            if of_class(Class::Mul) > limits.mul {
+                return refused("MUL");
+            }
+            if of_class(Class::Mem) > limits.mem {
+                return refused("MEM");
+            }
+            if of_class(Class::Copy) + copies_out > limits.copy {
+                let inward = of_class(Class::Copy) > limits.copy;
+                let outward = copies_out > limits.copy;
+                return refused(match (inward, outward) {
+                    (true, _) => "COPY to it",
+                    (false, true) => "COPY from it",
+                    (false, false) => "COPY to and from it",
+                });
+            }
+        }
+        let controls = instruction.syllables.iter().filter(|placed| placed.syllable.class() == Class::Control).count();
+        if controls > 1 {
+            return Err(Refusal::new(6, instruction.place, "two control syllables"));
+        }
+    }
+    Ok(())
+}
+
+fn number_7(program: &Program) -> Result<(), Refusal> {
+    for instruction in &program.instructions {
+        let destinations = instruction.destinations();
+        for (index, destination) in destinations.iter().enumerate() {
+            if destinations[..index].contains(destination) {
+                return Err(Refusal::new(7, instruction.place, "double destination"));
+            }
+        }
+    }
+    Ok(())
+}
+
+fn number_8(program: &Program) -> Result<(), Refusal> {
+    let last = program.instructions.len() - 1;
+    for (index, instruction) in program.instructions.iter().enumerate() {
+        // Its place is the first syllable, so it comes before the control syllable's cases.
+        if index == last && !instruction.has_goto() && !instruction.is_stop() {
+            return Err(Refusal::new(8, instruction.place, last_cause(instruction)));
+        }
+        for placed in &instruction.syllables {
+            if let Some(target) = placed.syllable.target() {
+                if program.starting_at(target).is_none() {
+                    let inside = target < program.instructions[last].following();
+                    let at_end = target == program.instructions[last].following();
+                    let cause = match (inside, at_end) {
+                        (true, _) => "target inside an instruction",
+                        (_, true) => "target at the program's end",
+                        _ => "target beyond the program",
+                    };
+                    return Err(Refusal::new(8, placed.place, cause));
+                }
+            }
+            if placed.syllable.is_stop() && instruction.syllables.len() > 1 {
+                return Err(Refusal::new(8, placed.place, "stop has company"));
+            }
+        }
+    }
+    Ok(())
+}
+
+fn last_cause(instruction: &Instruction) -> &'static str {
+    match instruction.target() {
+        Some(_) => "last instruction a branch",
+        None => "last instruction plain",
+    }
+}
+
+#[cfg(test)]
+mod tests {
+    use super::*;
+
+    // Two clusters, width 2, one of each class, all delays 1.
+    const TWO: [u8; 16] = [2, 2, 1, 1, 1, 1, 2, 1, 1, 1, 1, 1, 1, 1, 1, 1];
+
+    const STOP: u32 = 0xC004_0000;
+    const END: u32 = 1 << 31;
+    const OPEN: u32 = 1 << 30;
+    const NOP: u32 = 0;
+    const GOTO: u32 = 61 << 24;
+    const BR: u32 = 62 << 24;
+
+    fn add(t: u32, s1: u32, s2: u32) -> u32 {
+        1 << 24 | t << 18 | s1 << 12 | s2
+    }
+
+    fn copy(t: u32, s1: u32, from: u32) -> u32 {
+        60 << 24 | t << 18 | s1 << 12 | from
+    }
+
+    fn given_with(table: &[u8], words: &[u32]) -> (u32, u32) {
+        let bytes: Vec<u8> = words.iter().flat_map(|word| word.to_be_bytes()).collect();
+        match load(table, &bytes, Lengths::of_load(12)) {
+            Ok(_) => (0, 0),
+            Err(refusal) => (refusal.number, refusal.place),
+        }
+    }
+
+    fn given(words: &[u32]) -> (u32, u32) {
+        given_with(&TWO, words)
+    }
+
+    #[test]
+    fn good_programs() {
+        assert_eq!(given(&[STOP]), (0, 0));
+        assert_eq!(given(&[END | OPEN | GOTO]), (0, 0));
+        assert_eq!(given(&[OPEN | add(1, 2, 3), END | OPEN | add(1, 2, 3), STOP]), (0, 0));
+    }
+
+    #[test]
+    fn number_2_in_its_order() {
+        let sized = |program: usize, memory, image, room| {
+            let lengths = Lengths { memory: Some(memory), image: Some(image), room };
+            load(&TWO, &STOP.to_be_bytes().repeat(2000)[..program], lengths).err().map(|r| (r.number, r.place))
+        };
+        assert_eq!(sized(4, 65_536, 2884, 12), None);
+        assert_eq!(sized(0, 65_537, 2883, 11), Some((2, 0)));
+        assert_eq!(sized(5, 0, 2884, 12), Some((2, 0)));
+        assert_eq!(sized(4, 65_537, 2883, 11), Some((2, 1)));
+        assert_eq!(sized(4, 65_536, 2885, 11), Some((2, 2)));
+        assert_eq!(sized(4, 65_536, 2884, 13), Some((2, 3)));
+    }
+
+    #[test]
+    fn most_syllables() {
+        assert_eq!(given(&[STOP; 4096]), (0, 0));
+        assert_eq!(given(&[STOP; 4097]), (2, 0));
+    }
+
+    #[test]
+    fn number_3_and_4() {
+        assert_eq!(given(&[STOP, OPEN | NOP]), (3, 1));
+        // A lower place under 4 does not come before 3.
+        assert_eq!(given(&[STOP | 1, OPEN | NOP]), (3, 1));
+        assert_eq!(given(&[STOP, STOP | 1]), (4, 1));
+        assert_eq!(given(&[END | OPEN | 2 << 18, STOP]), (4, 0));
+    }
+
+    #[test]
+    fn number_5() {
+        assert_eq!(given(&[END | NOP, STOP]), (5, 0));
+        let three = [OPEN | NOP, OPEN | NOP, END | OPEN | NOP, STOP];
+        assert_eq!(given(&three), (5, 2));
+        assert_eq!(given(&[OPEN | NOP, END | OPEN | GOTO]), (5, 1));
+        assert_eq!(given(&[END | OPEN | copy(1, 1, 0), STOP]), (5, 0));
+        assert_eq!(given(&[END | OPEN | copy(1, 1, 2), STOP]), (5, 0));
+        assert_eq!(given(&[END | OPEN | copy(1, 1, 1), STOP]), (0, 0));
+    }
+
+    #[test]
+    fn number_6() {
+        assert_eq!(given(&[STOP, OPEN | NOP, NOP, END | NOP, STOP]), (6, 1));
+        assert_eq!(given(&[OPEN | add(1, 2, 3), END | add(2, 2, 3), STOP]), (6, 0));
+        // One copy each way counts twice in both clusters.
+        assert_eq!(given(&[OPEN | copy(1, 1, 1), END | OPEN | copy(1, 1, 0), STOP]), (6, 0));
+        assert_eq!(given(&[OPEN | GOTO, END | GOTO]), (6, 0));
+        // Two stops are two control syllables before they are company.
+        assert_eq!(given(&[OPEN | 1 << 18, END | 1 << 18]), (6, 0));
+    }
+
+    #[test]
+    fn number_7() {
+        let wide = [1, 8, 8, 4, 4, 0, 1, 1, 1, 1, 1];
+        assert_eq!(given_with(&wide, &[STOP, OPEN | add(1, 2, 3), END | add(1, 2, 3), STOP]), (7, 1));
+        assert_eq!(given_with(&wide, &[OPEN | add(0, 2, 3), END | add(0, 2, 3), STOP]), (0, 0));
+        // Branch register 0 is ordinary.
+        let compare = 40 << 24;
+        assert_eq!(given_with(&wide, &[OPEN | compare, END | compare, STOP]), (7, 0));
+        assert_eq!(given_with(&wide, &[OPEN | compare, END | 23 << 24, STOP]), (7, 0));
+        assert_eq!(given_with(&wide, &[OPEN | compare, END | 23 << 24 | 1 << 6, STOP]), (0, 0));
+    }
+
+    #[test]
+    fn number_8() {
+        let two = OPEN | NOP;
+        assert_eq!(given(&[two, END | GOTO | 1]), (8, 1));
+        assert_eq!(given(&[two, END | GOTO | 2]), (8, 1));
+        assert_eq!(given(&[two, END | GOTO]), (0, 0));
+        assert_eq!(given(&[OPEN | NOP, END | 1 << 18]), (8, 1));
+        assert_eq!(given(&[STOP, END | OPEN | NOP]), (8, 1));
+        // The last instruction's first syllable lies before its bad target.
+        assert_eq!(given(&[STOP, OPEN | NOP, END | BR | 9]), (8, 1));
+    }
+
+    #[test]
+    fn the_swap_loads() {
+        let table = [1, 4, 4, 2, 1, 0, 1, 2, 2, 3, 1];
+        assert_eq!(given_with(&table, &[0x410C_4800, 0x8110_3800, STOP]), (0, 0));
+    }
+}
