@@ -1,25 +1,34 @@
--- Decoding: how an arm of the code makes its line of `decodeAs`.
+-- An arm of a `match` on the form makes the form's line of the definition: of `strayAs` by `tests`, of `decodeAs` by `fields`.
 use mathlib.Core.Path.{_≡_, _∙_}
+use mathlib.Core.Bool.{Bool}
 use Prim.Native.Nat.{ℕ}
+use Rattle.isa.specs.Zero.{strayAs}
 use Rattle.isa.specs.Decode.{general, twoTo, decodeAs}
 use Rattle.isa.specs.declared.Op.{Op}
 use Rattle.isa.specs.declared.Format.{Format}
-use Rattle.isa.proofs.Steps.{steps}
+use Rattle.isa.proofs.Steps.{steps, joins}
 
-pub by-form : (c s : ℕ) (f g : Format) (r : Op) → f ≡ g → r ≡ decodeAs c s g → r ≡ decodeAs c s f
-by-form c s f g r e h = rw e h
+pub stray-line : (s : ℕ) (f g : Format) (r : Bool) → f ≡ g → r ≡ strayAs g s → r ≡ strayAs f s
+stray-line s f g r e h = rw e h
+
+pub ruleset tests = (stray-line, joins)
+
+pub decode-line : (c s : ℕ) (f g : Format) (r : Op) → f ≡ g → r ≡ decodeAs c s g → r ≡ decodeAs c s f
+decode-line c s f g r e h = rw e h
 
 abbrev op : ℕ → ℕ → ℕ → ℕ → ℕ → ℕ → ℕ → Op
 op o x y z n d e = record { opcode = o; s1 = x; s2 = y; s3 = z; number = n; t1 = d; t2 = e }
 
+-- field by field
 pub made : (r : Op) {o o′ x x′ y y′ z z′ n n′ d d′ e e′ : ℕ} → r ≡ op o x y z n d e →
     o ≡ o′ → x ≡ x′ → y ≡ y′ → z ≡ z′ → n ≡ n′ → d ≡ d′ → e ≡ e′ → r ≡ op o′ x′ y′ z′ n′ d′ e′
 made r m o x y z n d e = m ∙ λ i. op (o i) (x i) (y i) (z i) (n i) (d i) (e i)
 
+-- copy's cluster, and the destination of the forms with s2 as a register or a number, come from other functions
 pub from-cluster : (c c′ x r : ℕ) → r ≡ general c′ x → c′ ≡ c → r ≡ general c x
 from-cluster c c′ x r h e = rw (← e) h
 
 pub into : (c s t t′ : ℕ) (r : Op) → r ≡ twoTo c s t′ → t′ ≡ t → r ≡ twoTo c s t
 into c s t t′ r h e = rw (← e) h
 
-pub ruleset fields = (by-form, made, from-cluster, into, steps)
+pub ruleset fields = (decode-line, made, from-cluster, into, steps)

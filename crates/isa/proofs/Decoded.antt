@@ -1,19 +1,18 @@
 -- What the crates above know of a decoded syllable.
 use mathlib.Core.Path.{_≡_, ap}
-use mathlib.Core.Bool.{Bool, true, false}
 use mathlib.Core.Logic.{_⊎_, inl, inr}
 use Prim.Native.Nat.{ℕ, _+_, _-_, _*_, _%_, _^_, _≤_, _<_}
 use native.Mathlib.Nat.{mod-lt}
 use native.Mathlib.Omega.{arith}
 use lib.Dec.{eqb, ltb, lit<, lit≤}
 use lib.Pow.{pow-pos, pow-mono}
-use Rattle.word.specs.Choice.{pick}
 use Rattle.ops.specs.Arith.{widen}
 use Rattle.isa.specs.Syllable.{bits, opcode, formatOf}
 use Rattle.isa.specs.Decode.{general, branch, decodeAs, decode}
 use Rattle.isa.specs.declared.Op.{Op}
 use Rattle.isa.specs.declared.Format.{Format}
 use Rattle.isa.specs.declared.Format.the-variants.{Still, Two, One, Carry, Test, Select, Load, Store, Copy, Goto, Fork}
+use Rattle.isa.proofs.Steps.{either-way}
 use Rattle.isa.proofs.Formats.{Among, format-among, format-of}
 
 -- s1 and s2 are general registers, the others of either kind; the number is a word; where t2 is a register, it and s3 are branch registers
@@ -26,10 +25,6 @@ pub record Decoded (s : ℕ) (o : Op) : Type 0 where
   pub t2 : o .t2 < 288
   pub number : o .number < 2 ^ 32
   pub carry : (o .t2 ≡ 0) ⊎ ((256 ≤ o .s3) × (256 ≤ o .t2))
-
-either-way : {A : Type 0} (P : A → Type 0) (b : Bool) (x y : A) → P x → P y → P (pick b x y)
-either-way P true x y p q = p
-either-way P false x y p q = q
 
 general-below : (c r : ℕ) → c < 4 → r < 64 → general c r < 256
 general-below c r h k = either-way (λ (n : ℕ). n < 256) (eqb r 0) 0 (c * 64 + r) (omega arith) (omega arith)
@@ -72,7 +67,7 @@ module _ (c s : ℕ) (h : c < 4) where
   unfolding decode
   decoded = decoded-as (formatOf (opcode s))
 
-  -- t1 is a branch register for 40-49 alone
+  -- t1 is a branch register for no other opcodes than 40-49, and for these (`test-above`)
   no-test : 256 ≤ general c (bits 23 18 s) → Among Test (opcode s)
   no-test k = omega (arith, general-below c (bits 23 18 s) h (search bounds))
 
@@ -98,14 +93,14 @@ pub decode-as : (f : Format) (c s : ℕ) → Among f (opcode s) → decode c s �
 unfolding decode
 decode-as f c s a = rw (format-of f (opcode s) a)
 
+pub test-above : (c s : ℕ) → Among Test (opcode s) → 256 ≤ decode c s .t1
+test-above c s a = rw (decode-as Test c s a) (either-way (λ (o : Op). 256 ≤ o .t1) (eqb (bits 11 11 s) 0) _ _ (omega arith) (omega arith))
+
 pub goto-target : (c s : ℕ) → opcode s ≡ 61 → decode c s .number ≡ bits 23 0 s
 goto-target c s a = ap (λ (o : Op). o .number) (decode-as Goto c s a)
 
 pub fork-target : (c s : ℕ) → 62 ≤ opcode s → decode c s .number ≡ bits 20 0 s
 fork-target c s a = ap (λ (o : Op). o .number) (decode-as Fork c s a)
-
-pub test-above : (c s : ℕ) → Among Test (opcode s) → 256 ≤ decode c s .t1
-test-above c s a = rw (decode-as Test c s a) (either-way (λ (o : Op). 256 ≤ o .t1) (eqb (bits 11 11 s) 0) _ _ (omega arith) (omega arith))
 
 pub opcode-below : (s : ℕ) → opcode s < 64
 opcode-below s = omega arith

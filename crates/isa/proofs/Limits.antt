@@ -5,14 +5,16 @@ use mathlib.Core.Bool.{Bool, true, false, _||_}
 use Prim.Native.Nat.{ℕ, zero, suc, _+_, _≤_, _<_}
 use native.Mathlib.Numerals.{add-one}
 use native.Mathlib.Omega.{arith}
-use lib.Dec.{ltb, lit<}
+use lib.Dec.{ltb, leb, lit<}
 use lib.ListN.{getD}
 use borrow.Author.Count.{below-none, below-more}
 use borrow.Author.Tests.{ltb-true, ltb-false}
 use Rattle.word.specs.Choice.{pick}
 use Rattle.word.specs.Lists.{anyBelow}
 use Rattle.isa.specs.Table.{clustersOf, unit, delay, outside, clusterBreaks, column, tableBreaks, tableOf}
+use Rattle.isa.specs.Touch.{delayOf}
 use Rattle.isa.specs.declared.Table.{Table}
+use Rattle.isa.proofs.Steps.{either-way}
 
 -- a loop that tests one number more
 pub any-more : (f : ℕ → Bool) (k : ℕ) {x y r : Bool} → r ≡ (x || y) → x ≡ f k → y ≡ anyBelow f k → r ≡ anyBelow f (k + 1)
@@ -28,6 +30,7 @@ none-below f (suc n) e =
     let p = neither (f n) (anyBelow f n) e in
     rw (← add-one n) (below-more (λ (i : ℕ). f i ≡ false) n (none-below f n (p .1)) (p .0))
 
+-- the limits of a table as it is read
 abbrev pub Between : ℕ → ℕ → ℕ → Type 0
 Between least most x = (least ≤ x) × (x ≤ most)
 
@@ -45,7 +48,7 @@ inside bytes least most x e =
     let h = neither (ltb x least) (ltb most x) e in
     (ltb-false x least (h .0), ltb-false most x (h .1))
 
--- a count of four clusters, where each that is opened is at most n
+-- a count of all four clusters is at most n where those below C are
 column-below : (bytes : List ℕ) (j n : ℕ) → ((k : ℕ) → k < clustersOf bytes → unit bytes j k ≤ n) → (k : ℕ) → getD (column bytes j) k 0 ≤ n
 column-below bytes j n h = at
   where
@@ -83,3 +86,11 @@ limits bytes e =
       copy = delay-in bytes (h .1) 4 (lit< tt);
       width = column-below bytes 0 8 λ i p. width-in bytes i (none-below (clusterBreaks bytes) (clustersOf bytes) (k .1) i p);
     }
+
+-- so has every result a delay from 1 to 8
+pub delay-limits : (t : Table) → Limits t → (o r : ℕ) → Between 1 8 (delayOf (t .delays) o r)
+delay-limits t h o r =
+    either-way (Between 1 8) (leb 256 r) _ _ (h .cmpb)
+    (either-way (Between 1 8) (leb o 23) _ _ (h .alu)
+    (either-way (Between 1 8) (leb o 29) _ _ (h .mul)
+    (either-way (Between 1 8) (leb o 51) _ _ (h .alu) (either-way (Between 1 8) (leb o 59) _ _ (h .load) (h .copy)))))

@@ -1,5 +1,5 @@
 -- Document 01, "Syllables and instructions": the fields of a syllable, and what its opcode asks for.
-use mathlib.Core.Bool.{Bool, true, false, _||_, _&&_}
+use mathlib.Core.Bool.{Bool, _||_, _&&_}
 use Prim.Native.Nat.{ℕ, suc, _-_, _/_, _%_, _^_}
 use lib.Dec.{eqb, leb}
 use Rattle.word.specs.Choice.{pick}

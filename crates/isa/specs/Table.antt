@@ -1,13 +1,12 @@
 -- Document 01, "The delay table": "the cluster count C; for each cluster its width, ALU, MUL, MEM and COPY counts; then five delays:
 -- ALU, CMPB, MUL, LOAD, COPY."
-use mathlib.Core.Bool.{Bool, true, false, not, _||_, _&&_}
+use mathlib.Core.Bool.{Bool, not, _||_}
 use mathlib.Core.List.{List, [], _∷_}
 use Prim.Native.Nat.{ℕ, _+_, _*_}
-use lib.Dec.{eqb, ltb, leb}
+use lib.Dec.{eqb, ltb}
 use lib.ListN.{getD, length}
 use Rattle.word.specs.Choice.{pick}
 use Rattle.word.specs.Lists.{anyBelow}
-use Rattle.isa.specs.declared.Delays.{Delays}
 use Rattle.isa.specs.declared.Table.{Table}
 
 module _ (bytes : List ℕ) where

@@ -1,5 +1,5 @@
 -- Refusal 4: "bits 23..18 of opcode 0 above 1, or a bit that should be zero is set". "Bits not named are zero."
-use mathlib.Core.Bool.{Bool, true, false, not, _||_, _&&_}
+use mathlib.Core.Bool.{Bool, false, not, _||_, _&&_}
 use Prim.Native.Nat.{ℕ}
 use lib.Dec.{eqb, ltb}
 use Rattle.isa.specs.Syllable.{bits, opcode, formatOf}

@@ -12,4 +12,4 @@ branch-at-spec =
     (λ c. search needs)
     (λ c κs. search needs)
     (λ c κs. (c .before .pre .0, rw (c .bits .ensures) (field-below _ _ _ 3 (omega arith))))
-    (λ c. cc))
+    (λ c. rw (c .branch .ensures, c .before .bits .ensures)))

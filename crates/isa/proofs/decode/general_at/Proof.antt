@@ -12,4 +12,4 @@ general-at-spec =
     (λ c. search needs)
     (λ c κs. search needs)
     (λ c κs. (c .before .pre .0, rw (c .bits .ensures) (field-below _ _ _ 6 (omega arith))))
-    (λ c. cc))
+    (λ c. rw (c .general .ensures, c .before .bits .ensures)))

@@ -4,8 +4,20 @@ use Rattle.isa.specs.Table.{tableBreaks}
 use Rattle.isa.proofs.tables.breaks.Statement.{statement}
 use Rattle.isa.proofs.tables.breaks.Tie as tie
 
-pub breaks-spec : {M : Type 1} → statement M
+returns : tie.Need-returns
 unfolding tableBreaks
+returns c =
+    rw (
+      c .either4 .ensures,
+      c .before .any-delay-breaks .ensures,
+      c .before .before .either3 .ensures,
+      c .before .before .before .any-cluster-breaks .ensures,
+      c .before .before .before .before .either2 .ensures,
+      c .before .before .before .before .before .either .ensures,
+      c .before .before .before .before .before .before .byte-at .ensures,
+    )
+
+pub breaks-spec : {M : Type 1} → statement M
 breaks-spec =
     tie.close
     (tie.spec
@@ -19,4 +31,4 @@ breaks-spec =
     (λ c κs. search needs)
     (λ c κs. search needs)
     (λ c κs. search needs)
-    (λ c. cc))
+    returns)

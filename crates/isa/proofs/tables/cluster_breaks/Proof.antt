@@ -1,5 +1,6 @@
 -- The five tests are those of the definition, in its order.
 use borrow.Author.Needs.{needs}
+use Rattle.isa.proofs.Steps.{joins}
 use Rattle.isa.proofs.tables.cluster_breaks.Statement.{statement}
 use Rattle.isa.proofs.tables.cluster_breaks.Tie as tie
 
@@ -16,4 +17,4 @@ cluster-breaks-spec =
     (λ c κs. search needs)
     (λ c κs. search needs)
     (λ c κs. search needs)
-    (λ c. cc))
+    (λ c. search joins depth 6))

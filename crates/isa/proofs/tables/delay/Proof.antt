@@ -4,4 +4,10 @@ use Rattle.isa.proofs.tables.delay.Statement.{statement}
 use Rattle.isa.proofs.tables.delay.Tie as tie
 
 pub delay-spec : {M : Type 1} → statement M
-delay-spec = tie.close (tie.spec (λ c κs. search needs) (λ c κs. search needs) (λ c. search needs) (λ c. cc))
+delay-spec =
+    tie.close
+    (tie.spec
+    (λ c κs. search needs)
+    (λ c κs. search needs)
+    (λ c. search needs)
+    (λ c. rw (c .unit .ensures, c .before .byte-at .ensures)))

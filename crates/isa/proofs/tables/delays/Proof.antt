@@ -4,8 +4,18 @@ use Rattle.isa.specs.Table.{tableOf}
 use Rattle.isa.proofs.tables.delays.Statement.{statement}
 use Rattle.isa.proofs.tables.delays.Tie as tie
 
-pub delays-spec : {M : Type 1} → statement M
+returns : tie.Need-returns
 unfolding tableOf
+returns c =
+    rw (
+      c .delay5 .ensures,
+      c .before .delay4 .ensures,
+      c .before .before .delay3 .ensures,
+      c .before .before .before .delay2 .ensures,
+      c .before .before .before .before .delay .ensures,
+    )
+
+pub delays-spec : {M : Type 1} → statement M
 delays-spec =
     tie.close
     (tie.spec
@@ -14,4 +24,4 @@ delays-spec =
     (λ c κs. search needs)
     (λ c κs. search needs)
     (λ c κs. search needs)
-    (λ c. cc))
+    returns)

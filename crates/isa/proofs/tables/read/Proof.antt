@@ -4,8 +4,20 @@ use Rattle.isa.specs.Table.{tableOf}
 use Rattle.isa.proofs.tables.read.Statement.{statement}
 use Rattle.isa.proofs.tables.read.Tie as tie
 
-pub read-spec : {M : Type 1} → statement M
+returns : tie.Need-returns
 unfolding tableOf
+returns c =
+    rw (
+      c .delays .ensures,
+      c .before .column5 .ensures,
+      c .before .before .column4 .ensures,
+      c .before .before .before .column3 .ensures,
+      c .before .before .before .before .column2 .ensures,
+      c .before .before .before .before .before .column .ensures,
+      c .before .before .before .before .before .before .byte-at .ensures,
+    )
+
+pub read-spec : {M : Type 1} → statement M
 read-spec =
     tie.close
     (tie.spec
@@ -17,4 +29,4 @@ read-spec =
     (λ c κs. search needs)
     (λ c κs. search needs)
     (λ c κs. search needs)
-    (λ c. cc))
+    returns)

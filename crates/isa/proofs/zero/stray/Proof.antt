@@ -6,4 +6,10 @@ use Rattle.isa.proofs.zero.stray.Tie as tie
 
 pub stray-spec : {M : Type 1} → statement M
 unfolding stray
-stray-spec = tie.close (tie.spec (λ c κs. search needs) (λ c κs. search needs) (λ c κs. search needs) (λ c. cc))
+stray-spec =
+    tie.close
+    (tie.spec
+    (λ c κs. search needs)
+    (λ c κs. search needs)
+    (λ c κs. search needs)
+    (λ c. rw (c .stray-as .ensures, c .before .format .ensures, c .before .before .opcode .ensures)))

@@ -1,5 +1,6 @@
 -- The tests of the arm that the form leads to are those of its line in `strayAs`.
 use borrow.Author.Needs.{needs}
+use Rattle.isa.proofs.Arms.{tests}
 use Rattle.isa.proofs.zero.stray_as.Statement.{statement}
 use Rattle.isa.proofs.zero.stray_as.Tie as tie
 
@@ -28,12 +29,12 @@ stray-as-spec =
     (λ c. search needs)
     (λ c. search needs)
     (λ c. search needs)
-    (λ c. cc)
-    (λ c. cc)
-    (λ c. cc)
-    (λ c. cc)
-    (λ c. cc)
-    (λ c. cc)
+    (λ c. search tests)
+    (λ c. search tests)
+    (λ c. search tests)
+    (λ c. search tests)
+    (λ c. search tests)
+    (λ c. search tests)
     (λ c. search needs)
     (λ c. search needs)
     (λ c. search needs)
