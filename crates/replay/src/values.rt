@@ -2,6 +2,7 @@
 ghost use mathlib.Core.Path.{_≡_};
 ghost use Prim.Native.Nat.{_+_, _≤_};
 ghost use lib.ListN.{length};
+use crate::stream::write_bytes;
 use word::number::put_word;
 use word::number::word_at;
 
@@ -43,7 +44,7 @@ fn memory(answer: &mut [u8], from: usize, s1: u32, offset: u32)
     stores(answer, from + 24, s1);
 }
 
-pub fn perform(header: &[u8], answer: &mut [u8])
+fn perform(header: &[u8], answer: &mut [u8])
     requires { ⌜ length (now header) ≡ 32 ⌝ }
     requires { ⌜ length (now answer) ≡ 552 ⌝ }
 {
@@ -55,4 +56,14 @@ pub fn perform(header: &[u8], answer: &mut [u8])
     column(answer, 256, s1, isa::decode::immediate(syllable), b);
     put_word(answer, 512, ops::carry(s1, s2, b));
     memory(answer, 516, s1, isa::decode::offset(syllable));
+}
+
+// Answers a request; false never, since it brings nothing after its header.
+pub fn answer(header: &[u8]) -> bool
+    requires { ⌜ length (now header) ≡ 32 ⌝ }
+{
+    let mut words = [0u8; 552];
+    perform(header, &mut words);
+    write_bytes(&words);
+    true
 }

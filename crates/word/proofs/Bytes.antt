@@ -1,13 +1,13 @@
 -- Laws of numbers in bytes: of the number and its bytes, of reads and puts at an offset, and of the words of a list.
 use mathlib.Core.Path.{_≡_, refl, sym, ap, _∙_}
 use mathlib.Core.Logic.{_⊎_, inl, inr}
-use mathlib.Core.List.{List, [], _∷_, append-assoc}
+use mathlib.Core.List.{List, [], _∷_, _++_, append-assoc, append-nil}
 use Prim.Native.Nat.{ℕ, zero, suc, _+_, _-_, _*_, _/_, _%_, _^_, _≤_, _<_}
-use native.Mathlib.Nat.{suc-mul, pow-succ', one-le-pow, mul-assoc, mod-one, mod-eq-of-lt, mul-add-div-right, mul-add-mod-self-right, div-one, not-suc-le-zero, zero-lt-suc, add-assoc, lt-of-lt-of-le, pow-le-pow-right}
+use native.Mathlib.Nat.{suc-mul, pow-succ', one-le-pow, mul-assoc, mod-one, mod-eq-of-lt, mul-add-div-right, mul-add-mod-self-right, div-one, not-suc-le-zero, zero-lt-suc, add-assoc, lt-of-lt-of-le, pow-le-pow-right, add-zero, zero-add, div-add-mod'}
 use native.Mathlib.Numerals.{add-one, add-two, add-three, add-four}
 use native.Mathlib.Omega.{arith}
 use lib.ListN.{length, getD, take, drop, set, length-take, length-drop}
-use lib.Seq.{drop-cons, getD-drop, sets, length-sets, sets-eq, length-take-le, take-at, drop-at, drop-set-lt, drop-set-add, take-set-le}
+use lib.Seq.{drop-cons, getD-drop, sets, length-sets, sets-eq, length-take-le, drop-length, take-at, drop-at, drop-set-lt, drop-set-add, take-set-le}
 use lib.Bits.{bitOr, or-shifted}
 use lib.Arith.{digits-lt, digits-div, mod-mul}
 use Rattle.word.specs.Bytes.{AreBytes, number, bytes, numberAt, wordAt, putNumber, putWord, words}
@@ -141,3 +141,16 @@ words-take (suc n) (a ∷ b ∷ c ∷ d ∷ l) = rw (suc-mul, add-four, words-ta
 
 pub words-part : (n a : ℕ) (l : List ℕ) → words (take (n * 4) (drop (a * 4) l)) ≡ take n (drop a (words l))
 words-part n a l = words-take n (drop (a * 4) l) ∙ ap (take n) (words-drop a l)
+
+-- a run of stores, and one after it
+pub sets-append : (l : List ℕ) (i : ℕ) (xs ys : List ℕ) {j : ℕ} → i + length xs ≡ j → sets (sets l i xs) j ys ≡ sets l i (xs ++ ys)
+sets-append l i [] ys e = rw (← e, add-zero)
+sets-append l i (x ∷ xs) ys e = sets-append (set l i x) (suc i) xs ys (omega arith)
+
+-- stores over the whole list
+pub sets-all : (l xs : List ℕ) → length xs ≡ length l → sets l 0 xs ≡ xs
+sets-all l xs e = rw (sets-eq xs l 0 (omega arith), zero-add, e, drop-length) (append-nil xs)
+
+-- a number's low bytes are those of its remainder
+pub bytes-mod : (n v : ℕ) → bytes n (v % 256 ^ n) ≡ bytes n v
+bytes-mod n v = sym (bytes-low n (v / 256 ^ n) (v % 256 ^ n)) ∙ ap (bytes n) (div-add-mod' v (256 ^ n))

@@ -6,10 +6,10 @@ use Rattle.replay.proofs.main.Statement.{statement}
 use Rattle.replay.proofs.main.Tie as tie
 
 abbrev Inv-loop : tie.InvT-loop
-Inv-loop header₀ answer₀ counter₀ header answer counter = (counter ≤ 1000000000) × (length header ≡ 32) × (length answer ≡ 552)
+Inv-loop header₀ counter₀ header counter = (counter ≤ 1000000000) × (length header ≡ 32)
 
 abbrev μ-loop : tie.MeasureT-loop
-μ-loop header₀ answer₀ counter₀ header answer counter = 1000000000 - counter
+μ-loop header₀ counter₀ header counter = 1000000000 - counter
 
 loop-holds : tie.Need-loop-holds Inv-loop μ-loop
 loop-holds c = search needs
@@ -23,20 +23,23 @@ read-full-requires c κs = search needs
 returns : tie.Need-returns Inv-loop μ-loop
 returns c = search needs
 
-slice-aggregate-perform : tie.Need-slice-aggregate-perform Inv-loop μ-loop
-slice-aggregate-perform c = search needs
+array-read-kind : tie.Need-array-read-kind Inv-loop μ-loop
+array-read-kind c = search needs
 
-slice-aggregate-perform-2 : tie.Need-slice-aggregate-perform-2 Inv-loop μ-loop
-slice-aggregate-perform-2 c = search needs
+slice-aggregate-answer : tie.Need-slice-aggregate-answer Inv-loop μ-loop
+slice-aggregate-answer c = search needs
 
-perform-requires : tie.Need-perform-requires Inv-loop μ-loop
-perform-requires c κs = search needs
+answer-requires : tie.Need-answer-requires Inv-loop μ-loop
+answer-requires c κs = search needs
 
-slice-aggregate-write-all : tie.Need-slice-aggregate-write-all Inv-loop μ-loop
-slice-aggregate-write-all c = search needs
+slice-aggregate-answer-2 : tie.Need-slice-aggregate-answer-2 Inv-loop μ-loop
+slice-aggregate-answer-2 c = search needs
 
-write-all-requires : tie.Need-write-all-requires Inv-loop μ-loop
-write-all-requires c κs = search needs
+answer-requires-2 : tie.Need-answer-requires-2 Inv-loop μ-loop
+answer-requires-2 c κs = search needs
+
+returns-2 : tie.Need-returns-2 Inv-loop μ-loop
+returns-2 c = search needs
 
 add-counter : tie.Need-add-counter Inv-loop μ-loop
 add-counter c = search needs
@@ -47,8 +50,8 @@ loop-less c = search needs
 loop-again : tie.Need-loop-again Inv-loop μ-loop
 loop-again c = search needs
 
-returns-2 : tie.Need-returns-2 Inv-loop μ-loop
-returns-2 c = search needs
+returns-3 : tie.Need-returns-3 Inv-loop μ-loop
+returns-3 c = search needs
 
 pub main-spec : {M : Type 1} → statement M
 main-spec =
@@ -60,12 +63,13 @@ main-spec =
     slice-aggregate-read-full
     read-full-requires
     returns
-    slice-aggregate-perform
-    slice-aggregate-perform-2
-    perform-requires
-    slice-aggregate-write-all
-    write-all-requires
+    array-read-kind
+    slice-aggregate-answer
+    answer-requires
+    slice-aggregate-answer-2
+    answer-requires-2
+    returns-2
     add-counter
     loop-less
     loop-again
-    returns-2)
+    returns-3)

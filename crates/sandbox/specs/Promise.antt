@@ -1,0 +1,29 @@
+-- What each entry promises, as one relation between what a call is given and all that it may change; and what is proved of the promise.
+use mathlib.Core.Path.{_≡_}
+use mathlib.Core.List.{List}
+use Prim.Native.Nat.{ℕ}
+use Rattle.loader.specs.Load.{loadedOf}
+use Rattle.loader.specs.Answer.{loadAnswer, Outcome, loadOutcome}
+use Rattle.loader.specs.Exact.{Exact}
+use Rattle.sandbox.specs.Wrong.{Wrong}
+
+-- a promise that admits one outcome only
+abbrev pub Settles : {I O : Type 0} → (I → O → Type 0) → Type 0
+Settles {I = I} {O = O} P = (i : I) (a b : O) → P i a → P i b → a ≡ b
+
+-- a call of load: table, program, room
+pub record Call : Type 0 where
+  pub table : List ℕ
+  pub program : List ℕ
+  pub room : List ℕ
+
+abbrev pub Loads : Call → Outcome → Type 0
+Loads c o = o ≡ loadOutcome (c .table) (c .program) (c .room)
+
+pub record Load : Type 0 where
+  -- one outcome for every input
+  pub settles : Settles Loads
+  -- "Given exactly if": the lowest number that is broken, at its lowest place; 0 exactly if none is broken
+  pub exact : (table program room : List ℕ) → Exact table program room (loadAnswer (loadedOf table program room))
+  -- a loader that refuses everything breaks the promise, and so does one that passes everything
+  pub wrong : Wrong
