@@ -2,7 +2,7 @@
 // second/README.md has the format. No contract can say what is read or written; what is called is proved.
 use libc::STDIN_FILENO;
 
-mod load;
+mod programs;
 mod stream;
 mod values;
 
@@ -17,7 +17,8 @@ fn main() {
         let kind = header[3];
         let more = match kind {
             1 => values::answer(&header),
-            2 => load::answer(&header),
+            2 => programs::answer(&header, false),
+            3 => programs::answer(&header, true),
             _ => false,
         };
         if !more {

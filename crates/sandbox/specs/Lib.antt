@@ -1,2 +1,3 @@
 pub mod Promise
 pub mod Wrong
+pub mod Schedules

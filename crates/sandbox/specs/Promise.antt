@@ -5,13 +5,15 @@ use Prim.Native.Nat.{ℕ}
 use Rattle.loader.specs.Load.{loadedOf}
 use Rattle.loader.specs.Answer.{loadAnswer, Outcome, loadOutcome}
 use Rattle.loader.specs.Exact.{Exact}
+use Rattle.schedule.specs.Answer.{Checks}
 use Rattle.sandbox.specs.Wrong.{Wrong}
+use Rattle.sandbox.specs.Schedules.{Examples, WrongCheck}
 
 -- a promise that admits one outcome only
 abbrev pub Settles : {I O : Type 0} → (I → O → Type 0) → Type 0
 Settles {I = I} {O = O} P = (i : I) (a b : O) → P i a → P i b → a ≡ b
 
--- a call of load: table, program, room
+-- a call of load or of check: table, program, room
 pub record Call : Type 0 where
   pub table : List ℕ
   pub program : List ℕ
@@ -27,3 +29,11 @@ pub record Load : Type 0 where
   pub exact : (table program room : List ℕ) → Exact table program room (loadAnswer (loadedOf table program room))
   -- a loader that refuses everything breaks the promise, and so does one that passes everything
   pub wrong : Wrong
+
+pub record Check : Type 0 where
+  -- one outcome for every input
+  pub settles : Settles (λ (c : Call) (o : Outcome). Checks (c .table) (c .program) (c .room) o)
+  -- a checker that refuses everything breaks the promise, and so does one that passes everything
+  pub wrong : WrongCheck
+  -- what the rule says of three schedules
+  pub examples : Examples

@@ -1,8 +1,13 @@
 // What a host calls: extern "C" entries on numbers and byte slices. Each tests what it takes, and none asks anything of its caller.
 ghost use mathlib.Core.Path.{_≡_};
 ghost use Rattle.loader.specs.Answer.{loadOutcome};
-ghost use Rattle.sandbox.specs.Promise.{Load};
+ghost use Rattle.sandbox.specs.Promise.{Load, Check};
+ghost use Rattle.schedule.specs.Answer.{Answers, Checks};
+use isa::tables::read;
+use loader::Answer;
+use loader::Loaded;
 use loader::answers;
+use schedule::answers::of_verdict;
 
 // Loads a program under a delay table: the answer in the room, and its number returned.
 #[no_mangle]
@@ -15,7 +20,33 @@ pub extern "C" fn vex_load(table: &[u8], program: &[u8], room: &mut [u8]) -> u32
     answer.number
 }
 
+// The answer of check: a refusal's, or the verdict's.
+fn checked(table: &[u8], program: &[u8], room: &[u8]) -> Answer
+    ensures { λ a. ⌜ Answers (now (table .entry)) (now (program .entry)) (now (room .entry)) a ⌝ }
+{
+    match loader::load(table, program, room) {
+        Loaded::Refused(r) => answers::of_refusal(r),
+        Loaded::Good => of_verdict(schedule::check(read(table), program)),
+    }
+}
+
+// Loads a program and checks its schedule: the answer in the room, and its number returned.
+#[no_mangle]
+pub extern "C" fn vex_check(table: &[u8], program: &[u8], room: &mut [u8]) -> u32
+    ensures { λ r. ⌜ Checks (now (table .entry)) (now (program .entry)) (now (room .entry))
+        (record { result = r; room = now (room .exit) }) ⌝ }
+{
+    let answer = checked(table, program, room);
+    answers::write(room, answer);
+    answer.number
+}
+
 // What is proved of load's promise. The function does nothing: its promise is the theorem, so that nobody drops it unseen.
 pub fn load_theorems()
     ensures { λ _. ⌜ Load ⌝ }
+{}
+
+// The same of check's promise.
+pub fn check_theorems()
+    ensures { λ _. ⌜ Check ⌝ }
 {}

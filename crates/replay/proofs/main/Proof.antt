@@ -38,6 +38,12 @@ slice-aggregate-answer-2 c = search needs
 answer-requires-2 : tie.Need-answer-requires-2 Inv-loop μ-loop
 answer-requires-2 c κs = search needs
 
+slice-aggregate-answer-3 : tie.Need-slice-aggregate-answer-3 Inv-loop μ-loop
+slice-aggregate-answer-3 c = search needs
+
+answer-requires-3 : tie.Need-answer-requires-3 Inv-loop μ-loop
+answer-requires-3 c κs = search needs
+
 returns-2 : tie.Need-returns-2 Inv-loop μ-loop
 returns-2 c = search needs
 
@@ -68,6 +74,8 @@ main-spec =
     answer-requires
     slice-aggregate-answer-2
     answer-requires-2
+    slice-aggregate-answer-3
+    answer-requires-3
     returns-2
     add-counter
     loop-less

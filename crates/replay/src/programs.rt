@@ -1,4 +1,4 @@
-// Kind 2: a call of load.
+// Kinds 2 and 3: a call of load or of check.
 ghost use mathlib.Core.Path.{_≡_};
 ghost use lib.ListN.{length};
 use crate::stream::fill;
@@ -6,14 +6,20 @@ use crate::stream::write_bytes;
 use crate::stream::write_number;
 use word::number::word_at;
 
-fn call(table: &[u8], program: &[u8], room: &mut [u8]) {
+fn load(table: &[u8], program: &[u8], room: &mut [u8]) {
     let number = sandbox::vex_load(table, program, room);
     write_number(number);
     write_bytes(room);
 }
 
+fn check(table: &[u8], program: &[u8], room: &mut [u8]) {
+    let number = sandbox::vex_check(table, program, room);
+    write_number(number);
+    write_bytes(room);
+}
+
 // Reads table, program and room, calls, and writes the number and the room; false where the stream ended.
-pub fn answer(header: &[u8]) -> bool
+pub fn answer(header: &[u8], checks: bool) -> bool
     requires { ⌜ length (now header) ≡ 32 ⌝ }
 {
     let mut table = [0u8; 64];
@@ -40,6 +46,10 @@ pub fn answer(header: &[u8]) -> bool
     if !fill(&mut room, c) {
         return false;
     }
-    call(&table[0..a], &program[0..b], &mut room[0..c]);
+    if checks {
+        check(&table[0..a], &program[0..b], &mut room[0..c]);
+    } else {
+        load(&table[0..a], &program[0..b], &mut room[0..c]);
+    }
     true
 }

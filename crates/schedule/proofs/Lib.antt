@@ -1,0 +1,9 @@
+pub mod Parts
+pub mod Keeping
+pub mod Naming
+pub mod Going
+pub mod Growing
+pub mod Reaching
+pub mod Few
+pub mod Clashes
+pub mod Once

@@ -1,0 +1,42 @@
+-- An instruction touches a register exactly if one of its operations names it.
+use mathlib.Core.Path.{_≡_, refl, sym, _∙_}
+use mathlib.Core.Bool.{Bool, true, false, _||_}
+use mathlib.Core.List.{List, [], _∷_, _++_, map}
+use Prim.Native.Nat.{ℕ}
+use lib.Dec.{eqb}
+use borrow.Author.Tests.{eqb-true, ne-eqb}
+use Rattle.word.specs.Choice.{pick}
+use Rattle.word.specs.Lists.{any, member}
+use Rattle.word.proofs.Choice.{or-right}
+use Rattle.word.proofs.Lists.{any-append}
+use Rattle.isa.specs.Touch.{Result, reads, resultIn, results, destinations}
+use Rattle.isa.specs.declared.Op.{Op}
+use Rattle.schedule.specs.Gather.{names}
+
+-- what is read stands before what is written
+sorted : (a b c A d e B : Bool) → ((a || b || c || d || e) || (A || B)) ≡ ((a || (b || (c || A))) || (d || (e || B)))
+sorted true b c A d e B = refl
+sorted false true c A d e B = refl
+sorted false false true A d e B = refl
+sorted false false false A true e B = sym (or-right A refl)
+sorted false false false A false true B = sym (or-right A refl)
+sorted false false false A false false B = refl
+
+module _ (r : ℕ) (some : r ≡ 0 → ⊥) where
+  written : (t o : ℕ) (more : List Result)
+      → member r (map (λ (x : Result). x .register) (resultIn t o more)) ≡ eqb r t || member r (map (λ (x : Result). x .register) more)
+  written t o more = by (eqb t 0) refl
+    where
+      by : (b : Bool) → eqb t 0 ≡ b
+          → member r (map (λ (x : Result). x .register) (pick b more (record { register = t; opcode = o } ∷ more))) ≡ eqb r t || member r (map (λ (x : Result). x .register) more)
+      by true e = rw (eqb-true t 0 e, ne-eqb r 0 some)
+      by false e = refl
+
+  named : (os : List Op) → any (names r) os ≡ member r (reads os) || member r (destinations os)
+  named [] = refl
+  named (o ∷ os) =
+      rw (named os, written (o .t1) (o .opcode) _, written (o .t2) (o .opcode) (results os))
+      (sorted (eqb r (o .s1)) (eqb r (o .s2)) (eqb r (o .s3)) (member r (reads os)) (eqb r (o .t1)) (eqb r (o .t2)) (member r (destinations os)))
+
+  pub touched : (os : List Op) → any (names r) os ≡ member r (reads os ++ destinations os)
+  touched os = named os ∙ sym (any-append (eqb r) (reads os) (destinations os))

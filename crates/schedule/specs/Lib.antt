@@ -1,0 +1,5 @@
+pub mod Part
+pub mod Gather
+pub mod Near
+pub mod Rule
+pub mod Answer
