@@ -1,0 +1,166 @@
+-- Laws of the image: an image and the place and registers that it holds give each other.
+use mathlib.Core.Path.{_≡_, refl, sym, ap, _∙_}
+use mathlib.Core.List.{List, [], _∷_, _++_}
+use Prim.Native.Nat.{ℕ, zero, suc, _+_, _*_, _/_, _^_, _≤_, _<_}
+use native.Mathlib.Nat.{add-zero, zero-add, add-suc, suc-add, mod-lt, mod-eq-of-lt, zero-lt-suc, not-suc-le-zero, le-of-suc-le-suc}
+use native.Mathlib.Omega.{arith}
+use lib.ListN.{length, getD, set, take, drop, length-drop, take-append-drop}
+use lib.Seq.{sets, length-take-le, drop-cons, drop-drop, drop-length, getD-drop}
+use Rattle.word.specs.Bytes.{AreBytes, number, bytes, wordAt}
+use Rattle.word.proofs.Bytes.{bytes-number, number-bytes, numberAt-lt, areBytes-take, areBytes-drop}
+use Rattle.vliw.specs.Cell.{Cell, Registers, at}
+use Rattle.machine.specs.Image.{offset, placeIn, cellIn, cellsFrom, registersIn, cellBytes, registerBytes, imageOf}
+
+-- ---- the registers of an image
+
+module _ (image : List ℕ) where
+  cellsFrom-length : (r n : ℕ) → length (cellsFrom image r n) ≡ n
+  cellsFrom-length r zero = refl
+  cellsFrom-length r (suc n) = ap suc (cellsFrom-length (suc r) n)
+
+  cellsFrom-at : (r n i : ℕ) → i < n → at (cellsFrom image r n) i ≡ cellIn image (r + i)
+  cellsFrom-at r zero i h = absurd (not-suc-le-zero h)
+  cellsFrom-at r (suc n) zero h = rw add-zero
+  cellsFrom-at r (suc n) (suc i) h = rw (add-suc r i, ← suc-add r i) (cellsFrom-at (suc r) n i (le-of-suc-le-suc h))
+
+  pub cellsFrom-add : (r m n : ℕ) → cellsFrom image r (m + n) ≡ cellsFrom image r m ++ cellsFrom image (r + m) n
+  cellsFrom-add r zero n = rw (zero-add, add-zero)
+  cellsFrom-add r (suc m) n = rw (suc-add m n, add-suc r m, ← suc-add r m, cellsFrom-add (suc r) m n)
+
+  pub registers-length : length (registersIn image) ≡ 288
+  unfolding registersIn
+  registers-length = cellsFrom-length 0 288
+
+  pub register-at : (r : ℕ) → r < 288 → at (registersIn image) r ≡ cellIn image r
+  unfolding registersIn
+  register-at r h = rw zero-add at (cellsFrom-at 0 288 r h)
+
+-- ---- the bytes of registers
+
+pub registerBytes-length : (l : Registers) → length (registerBytes l) ≡ 10 * length l
+registerBytes-length [] = refl
+registerBytes-length (c ∷ l) = omega (arith, registerBytes-length l)
+
+pub registerBytes-append : (l m : Registers) → registerBytes (l ++ m) ≡ registerBytes l ++ registerBytes m
+registerBytes-append [] m = refl
+registerBytes-append (c ∷ l) m = rw (registerBytes-append l m)
+
+-- a run of stores, and one after it
+pub sets-append : (l : List ℕ) (i : ℕ) (xs ys : List ℕ) {j : ℕ} → i + length xs ≡ j → sets (sets l i xs) j ys ≡ sets l i (xs ++ ys)
+sets-append l i [] ys e = rw (← e, add-zero)
+sets-append l i (x ∷ xs) ys e = sets-append (set l i x) (suc i) xs ys (omega arith)
+
+pub imageOf-length : (place : ℕ) (l : Registers) → length l ≡ 288 → length (imageOf place l) ≡ 2884
+unfolding imageOf
+imageOf-length place l e = omega (arith, registerBytes-length l)
+
+-- ---- what an image holds is written as that image
+
+module _ (image : List ℕ) (h : AreBytes image) where
+  word-again : (o : ℕ) → o + 4 ≤ length image → bytes 4 (wordAt o image) ++ drop (o + 4) image ≡ drop o image
+  word-again o l =
+      let d : List ℕ = drop o image in
+      let e = bytes-number (take 4 d) (length-take-le 4 d (omega (arith, length-drop o image))) (areBytes-take 4 d (areBytes-drop o image h)) in
+      ap (λ (x : List ℕ). x ++ drop (o + 4) image) e ∙ rw (← drop-drop 4 o image) (take-append-drop 4 d)
+
+  cell-again : (r : ℕ) → offset (suc r) ≤ length image → cellBytes (cellIn image r) ++ drop (offset (suc r)) image ≡ drop (offset r) image
+  cell-again r l =
+      let o : ℕ = offset r in
+      let c : Cell = cellIn image r in
+      let e₄ : o + 4 + 4 ≡ o + 8 = omega arith in
+      let e₈ : suc (o + 8) ≡ o + 9 = omega arith in
+      let e₉ : suc (o + 9) ≡ offset (suc r) = omega arith in
+      let counts : c .busy ∷ c .landing ∷ drop (offset (suc r)) image ≡ drop (o + 4 + 4) image =
+      rw (e₄, drop-cons image (o + 8) 0 (omega arith), e₈, drop-cons image (o + 9) 0 (omega arith), e₉) in
+      ap (λ (x : List ℕ). bytes 4 (c .value) ++ (bytes 4 (c .waiting) ++ x)) counts
+      ∙ ap (λ (x : List ℕ). bytes 4 (c .value) ++ x) (word-again (o + 4) (omega arith))
+      ∙ word-again o (omega arith)
+
+  cells-again : (r n : ℕ) → offset (r + n) ≡ length image → registerBytes (cellsFrom image r n) ≡ drop (offset r) image
+  cells-again r zero e = let end : offset r ≡ length image = omega arith in rw (end, drop-length image)
+  cells-again r (suc n) e =
+      ap (λ (x : List ℕ). cellBytes (cellIn image r) ++ x) (cells-again (suc r) n (omega arith)) ∙ cell-again r (omega arith)
+
+pub image-read : (image : List ℕ) → length image ≡ 2884 → AreBytes image → imageOf (placeIn image) (registersIn image) ≡ image
+unfolding imageOf registersIn
+image-read image e h =
+    ap (λ (x : List ℕ). bytes 4 (placeIn image) ++ x) (cells-again image h 0 288 (sym e)) ∙ word-again image h 0 (omega arith)
+
+-- ---- what an image is written from is read of it
+
+-- a register that its ten bytes hold
+pub record Small (c : Cell) : Type 0 where
+  pub value : c .value < 2 ^ 32
+  pub waiting : c .waiting < 2 ^ 32
+  pub busy : c .busy < 256
+  pub landing : c .landing < 256
+
+abbrev pub AllSmall : Registers → Type 0
+AllSmall l = (r : ℕ) → Small (at l r)
+
+word-back : (image : List ℕ) (o v : ℕ) (rest : List ℕ) → v < 2 ^ 32 → drop o image ≡ bytes 4 v ++ rest → wordAt o image ≡ v
+word-back image o v rest h e = ap (λ (x : List ℕ). number (take 4 x)) e ∙ number-bytes 4 v ∙ mod-eq-of-lt h
+
+cell-back : (image : List ℕ) (r : ℕ) (c : Cell) (rest : List ℕ) → Small c → drop (offset r) image ≡ cellBytes c ++ rest → cellIn image r ≡ c
+cell-back image r c rest s e =
+    let o : ℕ = offset r in
+    λ k.
+    record {
+      value = word-back image o (c .value) _ (s .value) e k;
+      waiting = word-back image (o + 4) (c .waiting) _ (s .waiting) (sym (drop-drop 4 o image) ∙ ap (drop 4) e) k;
+      busy = (sym (getD-drop o image 8 0) ∙ ap (λ (x : List ℕ). getD x 8 0) e) k;
+      landing = (sym (getD-drop o image 9 0) ∙ ap (λ (x : List ℕ). getD x 9 0) e) k;
+    }
+
+cells-back : (image : List ℕ) (r : ℕ) (l : Registers) → AllSmall l → drop (offset r) image ≡ registerBytes l → cellsFrom image r (length l) ≡ l
+cells-back image r [] s e = refl
+cells-back image r (c ∷ l) s e =
+    let next : offset r + 10 ≡ offset (suc r) = omega arith in
+    let rest : drop (offset (suc r)) image ≡ registerBytes l = rw (← next, ← drop-drop 10 (offset r) image, e) in
+    λ k. cell-back image r c (registerBytes l) (s 0) e k ∷ cells-back image (suc r) l (λ i. s (suc i)) rest k
+
+pub read-image : (place : ℕ) (l : Registers) → place < 2 ^ 32 → length l ≡ 288 → AllSmall l
+    → (placeIn (imageOf place l) ≡ place) × (registersIn (imageOf place l) ≡ l)
+unfolding imageOf registersIn
+read-image place l h e s =
+    let image : List ℕ = imageOf place l in
+    (word-back image 0 place (registerBytes l) h refl, ap (cellsFrom image 0) (sym e) ∙ cells-back image 0 l s refl)
+
+-- ---- bytes hold small registers, and those make bytes
+
+module _ (image : List ℕ) (h : AreBytes image) where
+  cellsFrom-small : (r n : ℕ) → AllSmall (cellsFrom image r n)
+  cellsFrom-small r zero i = record { value = omega arith; waiting = omega arith; busy = omega arith; landing = omega arith }
+  cellsFrom-small r (suc n) zero =
+      record {
+        value = numberAt-lt 4 (offset r) image h;
+        waiting = numberAt-lt 4 (offset r + 4) image h;
+        busy = h (offset r + 8);
+        landing = h (offset r + 9);
+      }
+  cellsFrom-small r (suc n) (suc i) = cellsFrom-small (suc r) n i
+
+  pub registers-small : AllSmall (registersIn image)
+  unfolding registersIn
+  registers-small = cellsFrom-small 0 288
+
+bytes-then : (n v : ℕ) (l : List ℕ) → AreBytes l → AreBytes (bytes n v ++ l)
+bytes-then zero v l h i = h i
+bytes-then (suc n) v l h zero = mod-lt (v / 256 ^ n) (zero-lt-suc 255)
+bytes-then (suc n) v l h (suc i) = bytes-then n v l h i
+
+two-then : {a b : ℕ} (l : List ℕ) → a < 256 → b < 256 → AreBytes l → AreBytes (a ∷ b ∷ l)
+two-then l p q h zero = p
+two-then l p q h (suc zero) = q
+two-then l p q h (suc (suc i)) = h i
+
+registerBytes-areBytes : (l : Registers) → AllSmall l → AreBytes (registerBytes l)
+registerBytes-areBytes [] s i = zero-lt-suc 255
+registerBytes-areBytes (c ∷ l) s i =
+    let counts : List ℕ = c .busy ∷ c .landing ∷ registerBytes l in
+    let h : AreBytes counts = two-then (registerBytes l) (s 0 .busy) (s 0 .landing) (registerBytes-areBytes l (λ r. s (suc r))) in
+    bytes-then 4 (c .value) (bytes 4 (c .waiting) ++ counts) (bytes-then 4 (c .waiting) counts h) i
+
+pub imageOf-areBytes : (place : ℕ) (l : Registers) → AllSmall l → AreBytes (imageOf place l)
+unfolding imageOf
+imageOf-areBytes place l s = bytes-then 4 place (registerBytes l) (registerBytes-areBytes l s)

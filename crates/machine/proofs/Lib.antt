@@ -1,0 +1,6 @@
+pub mod Arrays
+pub mod Images
+pub mod Validity
+pub mod Phases
+pub mod Steps
+pub mod Instance

@@ -1,0 +1,2 @@
+-- Laws of loads and stores.
+pub mod Accesses

@@ -1,0 +1,4 @@
+-- Laws of the registers in the run's loop.
+pub mod Views
+pub mod Results
+pub mod Cells

@@ -1,0 +1,21 @@
+// The machine: state, image, and one instruction as the loop of the run gathers it.
+mod gather;
+pub mod image;
+mod memory;
+mod ticks;
+pub mod valid;
+
+use isa::Place;
+
+// The registers of all clusters, general and branch, and the place. Document 01 names the arrays.
+pub struct State {
+    pub place: Place,
+    pub value: [u32; 256],
+    pub waiting: [u32; 256],
+    pub busy: [u8; 256],
+    pub landing: [u8; 256],
+    pub branch_value: [u32; 32],
+    pub branch_waiting: [u32; 32],
+    pub branch_busy: [u8; 32],
+    pub branch_landing: [u8; 32],
+}
