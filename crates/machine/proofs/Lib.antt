@@ -4,3 +4,5 @@ pub mod Validity
 pub mod Phases
 pub mod Steps
 pub mod Instance
+pub mod Turns
+pub mod Endings

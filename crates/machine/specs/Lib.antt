@@ -6,3 +6,4 @@ pub mod Valid
 pub mod Run
 pub mod Ticks
 pub mod Gather
+pub mod Turn

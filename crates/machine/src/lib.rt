@@ -1,7 +1,8 @@
-// The machine: state, image, and one instruction as the loop of the run gathers it.
+// The machine: state, image, one instruction, run.
 mod gather;
 pub mod image;
 mod memory;
+pub mod run;
 mod ticks;
 pub mod valid;
 
