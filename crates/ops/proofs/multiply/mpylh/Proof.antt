@@ -1,3 +1,6 @@
+use mathlib.Core.Path.{_∙_}
+use Prim.Native.Nat.{_*_}
+use Rattle.ops.specs.Arith.{wrap}
 use borrow.Author.Needs.{needs}
 use Rattle.ops.proofs.multiply.mpylh.Statement.{statement}
 use Rattle.ops.proofs.multiply.mpylh.Tie as tie
@@ -12,7 +15,7 @@ product-requires : tie.Need-product-requires
 product-requires c κs = search needs
 
 returns : tie.Need-returns
-returns c = cc
+returns c = c .product .ensures ∙ λ i. wrap (c .before .before .sxth .ensures i * c .before .sxth2 .ensures i)
 
 pub mpylh-spec : {M : Type 1} → statement M
 mpylh-spec = tie.close (tie.spec sxth-requires sxth-requires-2 product-requires returns)
