@@ -8,6 +8,7 @@ mod syllables;
 use isa::Place;
 pub use numbers::load;
 pub use numbers::load_with;
+pub use numbers::program_breaks;
 
 // What stands against loading, with its place where document 01 gives one.
 pub enum Refusal {

@@ -25,7 +25,7 @@ use Rattle.isa.proofs.Steps.{either-way}
 use Rattle.isa.proofs.Limits.{Limits, delay-limits}
 use Rattle.loader.proofs.Refusals.{Passed}
 use Rattle.loader.proofs.Taken.{onward, distinct}
-use Rattle.machine.specs.Memory.{Store, store, share, anyShare}
+use Rattle.memory.specs.Memory.{Store, store, share, anyShare}
 use Rattle.machine.specs.Instruction.{Fired, fire, values, storesOf, Next, stops, nextBy, nextOf, faulted, outBy, acts, instructionOf}
 use Rattle.machine.specs.Instruction.{at as goesTo}
 use Rattle.machine.proofs.Phases.{faultOf-is}

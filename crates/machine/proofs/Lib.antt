@@ -1,8 +1,8 @@
 pub mod Arrays
 pub mod Images
 pub mod Validity
+pub mod Written
 pub mod Phases
-pub mod Steps
 pub mod Instance
-pub mod Turns
-pub mod Endings
+pub mod Aimed
+pub mod Stays

@@ -1,4 +1,4 @@
--- What one pass gathers is what the phases say: laws over an instruction's operations, for going operation by operation.
+-- Laws of the phases over an instruction's operations, for going operation by operation.
 use mathlib.Core.Path.{_≡_, refl, sym, _∙_, ap}
 use mathlib.Core.Logic.{_⊎_, inl, inr, ⊎-elim}
 use mathlib.Core.Bool.{Bool, true, false, not, _||_, _&&_, or-assoc, or-true}
@@ -19,35 +19,8 @@ use Rattle.isa.specs.Touch.{Result, resultIn, reads, results, destinations, des
 use Rattle.isa.specs.declared.Op.{Op}
 use Rattle.isa.specs.declared.Delays.{Delays}
 use Rattle.isa.proofs.Steps.{either-way}
-use Rattle.machine.specs.Memory.{sizeOf, Access, to, refused, access, Store}
-use Rattle.machine.specs.Instruction.{Fired, fire, isStore, addressOf, values, storesOf, faultBy, faultOf, Next, nextOf}
-use Rattle.machine.specs.Instruction.{at as goesTo}
-use Rattle.machine.specs.Gather.{opBusy, nextFrom}
-
--- ---- busy
-
-or-swap : (a b c : Bool) → a || (b || c) ≡ b || (a || c)
-or-swap true b c = sym (or-true b)
-or-swap false b c = refl
-
-abbrev flies : Registers → ℕ → Bool
-flies l r = ltb 0 (at l r .busy)
-
-module _ (l : Registers) (idle : at l 0 .busy ≡ 0) where
-  -- the destinations leave out register 0, which is never in flight
-  counted : (r c : ℕ) (more : List Result)
-      → any (flies l) (map (λ (x : Result). x .register) (resultIn r c more)) ≡ flies l r || any (flies l) (map (λ (x : Result). x .register) more)
-  counted r c more = ⊎-elim (λ e. rw (e, eqb-true r 0 e, idle)) (λ e. rw e) (by-test (eqb r 0))
-
-  busy-apart : (os : List Op) → any (flies l) (reads os) || any (flies l) (destinations os) ≡ any (opBusy l) os
-  busy-apart [] = refl
-  busy-apart (o ∷ os) =
-      let read = any (flies l) (reads os) in
-      rw (counted (o .t1), counted (o .t2), ← busy-apart os)
-      (simp or-assoc (rw (or-swap read (flies l (o .t1)), or-swap read (flies l (o .t2)))))
-
-  pub busy-uses : (d : Delays) (os : List Op) → anyBusy (reads os ++ map (λ (e : Dest). e .reg) (dests d os)) l ≡ any (opBusy l) os
-  busy-uses d os = rw (map-map, any-append) (busy-apart os)
+use Rattle.memory.specs.Memory.{sizeOf, Access, to, refused, access, Store, faultBy}
+use Rattle.machine.specs.Instruction.{Fired, fire, isStore, addressOf, values, storesOf, faultOf, Next, nextOf}
 
 -- ---- some operations, then others
 
@@ -69,14 +42,6 @@ results-append (o ∷ os) ps = simp (results-append os ps, pick-append)
 
 pub dests-append : (d : Delays) (os ps : List Op) → dests d (os ++ ps) ≡ dests d os ++ dests d ps
 dests-append d os ps = rw (results-append os ps) (map-append _ (results os) (results ps))
-
-pub nextFrom-append : (j : ℕ) (es fs : List Fired) (others : Next) → nextFrom j (es ++ fs) others ≡ nextFrom j es (nextFrom j fs others)
-nextFrom-append j [] fs others = refl
-nextFrom-append j (e ∷ es) fs others = rw (nextFrom-append j es fs others)
-
-pub next-from : (j : ℕ) (es : List Fired) → nextOf j es ≡ nextFrom j es (goesTo j)
-next-from j [] = refl
-next-from j (e ∷ es) = rw (next-from j es)
 
 -- ---- faults
 

@@ -12,7 +12,7 @@ use Rattle.isa.specs.Program.{operationsAt, following}
 use Rattle.isa.specs.Touch.{Way, along, nowhere, to as towards, fork, wayOf, reads, dests, nexts}
 use Rattle.isa.specs.declared.Op.{Op}
 use Rattle.isa.specs.declared.Delays.{Delays}
-use Rattle.machine.specs.Memory.{sizeOf, Access, to, refused, access, Store, anyShare}
+use Rattle.memory.specs.Memory.{sizeOf, access, faultBy, Store, anyShare}
 
 -- an operation with the values of what it reads: s1, s2 or the number, and b or the stored register
 pub record Fired : Type 0 where
@@ -63,10 +63,6 @@ storesOf (e ∷ es) =
     pick (isStore (e .op)) (s ∷ more) more
 
 -- "syllable by syllable, 12 before 13"; 0 for no fault
-abbrev pub faultBy : Access → ℕ → ℕ
-faultBy (to a) more = more
-faultBy (refused k) more = k
-
 abbrev pub faultOf : ℕ → List Fired → ℕ
 faultOf length [] = 0
 faultOf length (e ∷ es) =

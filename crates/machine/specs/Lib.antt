@@ -1,9 +1,6 @@
-pub mod Memory
 pub mod Instruction
 pub mod Image
 pub mod State
 pub mod Valid
+pub mod Reply
 pub mod Run
-pub mod Ticks
-pub mod Gather
-pub mod Turn

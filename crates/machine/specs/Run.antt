@@ -1,5 +1,4 @@
 -- A call of run: refusals 1 to 8 and 10, then at most n instructions.
-use mathlib.Core.Bool.{Bool, true, false}
 use mathlib.Core.List.{List}
 use Prim.Native.Nat.{ℕ}
 use Rattle.word.specs.Choice.{pick}
@@ -9,16 +8,17 @@ use Rattle.vliw.specs.Machine.{State, inOrder, step}
 use Rattle.isa.specs.Table.{tableOf}
 use Rattle.loader.specs.Broken.{programBreaks, memoryBreaks, imageBreaks, roomBreaks}
 use Rattle.loader.specs.Load.{_otherwise_, refusedIf, loadedWith}
-use Rattle.loader.specs.declared.Answer.{Answer}
-use Rattle.loader.specs.Answer.{answer, refusalAnswer, roomWith}
-use Rattle.loader.specs.declared.Refusal.{Refusal}
+use Rattle.loader.specs.Answer.{roomWith}
 use Rattle.loader.specs.declared.Refusal.the-variants.{Program, Memory, Image, Room}
 use Rattle.loader.specs.declared.Loaded.{Loaded}
 use Rattle.loader.specs.declared.Loaded.the-variants.{Good, Refused}
-use Rattle.machine.specs.Memory.{Store, store}
+use Rattle.memory.specs.Memory.{Store, store}
 use Rattle.machine.specs.Instruction.{instructionOf}
 use Rattle.machine.specs.Image.{placeIn, registersIn, imageOf}
 use Rattle.machine.specs.Valid.{stateBreaks}
+use Rattle.machine.specs.Reply.{replyAnswer, replyBy}
+use Rattle.machine.specs.declared.Reply.{Reply}
+use Rattle.machine.specs.declared.Reply.the-variants.{Unloaded, Invalid}
 
 -- all that a call takes and may change
 pub record Call : Type 0 where
@@ -50,30 +50,43 @@ stateOf c =
 abbrev pub ranOf : Call → Ran (State (List ℕ) Store)
 ranOf c = run (step store (instructionOf (tableOf (c .table) .delays) (words (c .program)))) (c .n) (stateOf c)
 
-abbrev pub outcome : Answer → List ℕ → List ℕ → List ℕ → Outcome
-outcome a state memory room =
-    record { result = a .number; state = state; memory = memory; room = roomWith a room }
+-- what a call comes to, before the answer is given
+pub record Done : Type 0 where
+  pub reply : Reply
+  pub state : List ℕ
+  pub memory : List ℕ
 
 -- "1 to 10 execute nothing"
-abbrev pub refused : Answer → Call → Outcome
-refused a c = outcome a (c .state) (c .memory) (c .room)
+abbrev pub refused : Reply → Call → Done
+refused y c = record { reply = y; state = c .state; memory = c .memory }
 
-abbrev pub ended : Ran (State (List ℕ) Store) → Call → Outcome
-ended r c =
+abbrev pub ended : Ran (State (List ℕ) Store) → Done
+ended r =
     let s = r .state in
-    outcome (answer (r .number) (r .count) (s .place)) (imageOf (s .place) (s .registers)) (s .memory) (c .room)
+    record {
+      reply = replyBy (r .number) (record { 0 = r .count }) (record { 0 = s .place });
+      state = imageOf (s .place) (s .registers);
+      memory = s .memory;
+    }
 
-abbrev pub runBy : Loaded → Call → Outcome
-runBy (Refused r) c = refused (refusalAnswer r) c
-runBy Good c = let r = ended (ranOf c) c in pick (stateBreaks (words (c .program)) (c .state)) (refused (answer 10 0 0) c) r
+abbrev pub doneBy : Loaded → Call → Done
+doneBy (Refused r) c = refused (Unloaded r) c
+doneBy Good c = pick (stateBreaks (words (c .program)) (c .state)) (refused Invalid c) (ended (ranOf c))
 
-unfoldable pub runOutcome : Call → Outcome
+-- 2: "program size; memory size; state image not 2,884 bytes; answer room not 12 bytes (in this order)"
+abbrev pub sizesOf : List ℕ → List ℕ → List ℕ → List ℕ → Loaded
+sizesOf program memory state room =
+    refusedIf (programBreaks program) Program
+    otherwise refusedIf (memoryBreaks memory) Memory
+    otherwise refusedIf (imageBreaks state) Image
+    otherwise refusedIf (roomBreaks room) Room
+
+unfoldable pub doneOf : Call → Done
+doneOf c = doneBy (loadedWith (sizesOf (c .program) (c .memory) (c .state) (c .room)) (c .table) (c .program)) c
+
+-- all that a call of run leaves
+abbrev pub runOutcome : Call → Outcome
 runOutcome c =
-    runBy
-    (loadedWith
-    (refusedIf (programBreaks (c .program)) Program
-    otherwise refusedIf (memoryBreaks (c .memory)) Memory
-    otherwise refusedIf (imageBreaks (c .state)) Image
-    otherwise refusedIf (roomBreaks (c .room)) Room)
-    (c .table) (c .program))
-    c
+    let d = doneOf c in
+    let a = replyAnswer (d .reply) in
+    record { result = a .number; state = d .state; memory = d .memory; room = roomWith a (c .room) }

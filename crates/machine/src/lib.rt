@@ -1,12 +1,11 @@
-// The machine: state, image, one instruction, run.
-mod gather;
+// The machine: its state, the image of it and validity. What an instruction and a run do is defined here; the crate run has the code.
 pub mod image;
-mod memory;
-pub mod run;
-mod ticks;
+pub mod replies;
 pub mod valid;
 
+use isa::Count;
 use isa::Place;
+use loader::Refusal;
 
 // The registers of all clusters, general and branch, and the place. Document 01 names the arrays.
 pub struct State {
@@ -19,4 +18,13 @@ pub struct State {
     pub branch_waiting: [u32; 32],
     pub branch_busy: [u8; 32],
     pub branch_landing: [u8; 32],
+}
+
+// What run replies: what stood against loading, a state that is not valid, or how the run ended, after how many instructions and where.
+pub enum Reply {
+    Unloaded(Refusal),
+    Invalid,
+    Paused(Count, Place),
+    Stopped(Count, Place),
+    Fault(u32, Count, Place),
 }

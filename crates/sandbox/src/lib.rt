@@ -1,12 +1,18 @@
 // What a host calls: extern "C" entries on numbers and byte slices. Each tests what it takes, and none asks anything of its caller.
 ghost use mathlib.Core.Path.{_≡_};
 ghost use Rattle.loader.specs.Answer.{loadOutcome};
+ghost use Rattle.machine.specs.Run.{runOutcome};
 ghost use Rattle.sandbox.specs.Promise.{Load, Check};
 ghost use Rattle.schedule.specs.Answer.{Answers, Checks};
+
+mod call;
+
+use call::call;
 use isa::tables::read;
 use loader::Answer;
 use loader::Loaded;
 use loader::answers;
+use machine::replies::of_reply;
 use schedule::answers::of_verdict;
 
 // Loads a program under a delay table: the answer in the room, and its number returned.
@@ -37,6 +43,33 @@ pub extern "C" fn vex_check(table: &[u8], program: &[u8], room: &mut [u8]) -> u3
         (record { result = r; room = now (room .exit) }) ⌝ }
 {
     let answer = checked(table, program, room);
+    answers::write(room, answer);
+    answer.number
+}
+
+// Runs at most n instructions of a program, from the state that the image holds: the answer in the room, and its number returned.
+#[no_mangle]
+pub extern "C" fn vex_run(
+    table: &[u8],
+    program: &[u8],
+    state: &mut [u8],
+    memory: &mut [u8],
+    landing: &[u8],
+    n: u32,
+    room: &mut [u8],
+) -> u32
+    ensures { λ r. ⌜ record { result = r; state = now (state .exit); memory = now (memory .exit); room = now (room .exit) }
+        ≡ runOutcome (record {
+          table = now (table .entry);
+          program = now (program .entry);
+          state = now (state .entry);
+          memory = now (memory .entry);
+          landing = now (landing .entry);
+          n = n;
+          room = now (room .entry);
+        }) ⌝ }
+{
+    let answer = of_reply(call(table, program, state, memory, landing, n, room));
     answers::write(room, answer);
     answer.number
 }

@@ -1,0 +1,121 @@
+-- What the class of an opcode says of its operation, and what decoding gives.
+use mathlib.Core.Path.{_≡_, refl}
+use mathlib.Core.Logic.{_⊎_, inl, inr, ⊎-elim}
+use mathlib.Core.Bool.{Bool, true, false, _||_, _&&_}
+use mathlib.Core.List.{[], _∷_}
+use Prim.Native.Nat.{ℕ, zero, suc, _≤_, _<_}
+use native.Mathlib.Omega.{arith}
+use lib.Dec.{eqb, ltb, leb}
+use borrow.Author.Tests.{eqb-true, ltb-true, ltb-false, leb-true, ne-eqb, le-ltb, le-leb}
+use Rattle.word.specs.Choice.{pick}
+use Rattle.word.proofs.Choice.{is-false, never-both, or-true, or-false, and-true}
+use Rattle.isa.specs.Syllable.{opcode, formatOf}
+use Rattle.isa.specs.Decode.{decodeAs, decode}
+use Rattle.isa.specs.Touch.{along, wayOf}
+use Rattle.isa.specs.declared.Op.{Op}
+use Rattle.isa.specs.declared.Format.{Format}
+use Rattle.isa.specs.declared.Format.the-variants.{Still, Two, One, Carry, Test, Select, Load, Store, Copy, Goto, Fork}
+use Rattle.isa.proofs.Formats.{Among, format-among}
+use Rattle.isa.proofs.Decoded.{decoded, opcode-below}
+use Rattle.machine.specs.Instruction.{Fired, isLoad, isStore, Next}
+use Rattle.gather.specs.Gather.{isMemory, isControl, nextFrom, decided, Formed}
+
+-- ---- tests
+
+pub pick-or : {A : Type 0} (s t : Bool) (x y : A) → pick (s || t) x y ≡ pick s x (pick t x y)
+pick-or true t x y = refl
+pick-or false t x y = refl
+
+module _ (a b c : ℕ) where
+  within-range : leb a c && leb c b ≡ true → (a ≤ c) × (c ≤ b)
+  within-range e = let (p, q) = and-true (leb a c) (leb c b) e in (leb-true a c p, leb-true c b q)
+
+  pub within-true : a ≤ c → c ≤ b → leb a c && leb c b ≡ true
+  within-true p q = rw (le-leb a c p, le-leb c b q)
+
+  pub within-false : (a ≤ c → c ≤ b → ⊥) → leb a c && leb c b ≡ false
+  within-false h = is-false _ (λ e. let (p, q) = within-range e in h p q)
+
+module _ (c : ℕ) where
+  pub memory-range : isMemory c ≡ true → (52 ≤ c) × (c ≤ 59)
+  memory-range = within-range 52 59 c
+
+  outside-memory : isMemory c ≡ false → 52 ≤ c → c ≤ 59 → ⊥
+  outside-memory e p q = never-both (within-true 52 59 c p q) e
+
+  memory-no-control : isMemory c ≡ true → isControl c ≡ false
+  memory-no-control e = let (p, q) = memory-range e in rw (ne-eqb c 0 (λ z. omega arith), le-ltb 60 c (omega arith))
+
+  control-range : isControl c ≡ true → (c ≡ 0) ⊎ (60 < c)
+  control-range e = ⊎-elim (λ p. inl (eqb-true c 0 p)) (λ p. inr (ltb-true 60 c p)) (or-true (eqb c 0) (ltb 60 c) e)
+
+  pub control-past : isControl c ≡ true → (c ≡ 0 → ⊥) → 60 < c
+  control-past e n = ltb-true 60 c (rw (ne-eqb c 0 n) at e)
+
+  pub control-no-memory : isControl c ≡ true → isMemory c ≡ false
+  control-no-memory e = ⊎-elim (λ (z : c ≡ 0). rw z) (λ l. within-false 52 59 c (λ p q. omega arith)) (control-range e)
+
+-- the first that decides does
+pub decided-first : (w p : ℕ) → (w ≡ 0 → ⊥) → (x y : Next) → decided w p x ≡ decided w p y
+decided-first zero p n x y = absurd (n refl)
+decided-first (suc zero) p n x y = refl
+decided-first (suc (suc w)) p n x y = refl
+
+-- ---- one operation
+
+module _ (e : Fired) where
+  pub no-load : isMemory (e .op .opcode) ≡ false → isLoad (e .op) ≡ false
+  no-load h = let c = e .op .opcode in within-false 52 56 c (λ p q. outside-memory c h p (omega arith))
+
+  pub no-store : isMemory (e .op .opcode) ≡ false → isStore (e .op) ≡ false
+  no-store h = let c = e .op .opcode in within-false 57 59 c (λ p q. outside-memory c h (omega arith) q)
+
+  -- only control decides where to go on
+  module _ (j w p : ℕ) where
+    pub goes-along : isControl (e .op .opcode) ≡ false → (k : Next) → decided w p k ≡ decided w p (nextFrom j (e ∷ []) k)
+    goes-along h k =
+        let c = e .op .opcode in
+        let (some, upto) = or-false (eqb c 0) (ltb 60 c) h in
+        rw (some, le-leb c 60 (ltb-false 60 c upto))
+
+    pub memory-goes-along : isMemory (e .op .opcode) ≡ true → (k : Next) → decided w p k ≡ decided w p (nextFrom j (e ∷ []) k)
+    memory-goes-along h = goes-along (memory-no-control (e .op .opcode) h)
+
+  -- nor does it have results or stores
+  pub control-silent : Formed (e .op) → isControl (e .op .opcode) ≡ true → (e .op .t1 ≡ 0) × (e .op .t2 ≡ 0)
+  control-silent f h = ⊎-elim (f .still) (λ l. (f .silent (omega arith) (λ z. omega arith), f .single (omega arith))) (control-range (e .op .opcode) h)
+
+-- ---- decoding
+
+module _ (c s : ℕ) (h : c < 4) where
+  silent-as : (f : Format) → Among f (opcode s) → let o = decodeAs c s f in
+      (opcode s ≡ 0 → (o .t1 ≡ 0) × (o .t2 ≡ 0)) × (52 ≤ opcode s → o .t2 ≡ 0) × (57 ≤ opcode s → (opcode s ≡ 60 → ⊥) → o .t1 ≡ 0)
+  silent-as Still a = (λ z. (refl, refl), λ z. refl, λ y z. refl)
+  silent-as Two (inl a) = (λ z. omega arith, λ z. omega arith, λ y z. omega arith)
+  silent-as Two (inr a) = (λ z. omega arith, λ z. omega arith, λ y z. omega arith)
+  silent-as One a = (λ z. omega arith, λ z. omega arith, λ y z. omega arith)
+  silent-as Carry a = (λ z. omega arith, λ z. omega arith, λ y z. omega arith)
+  silent-as Test a = (λ z. omega arith, λ z. omega arith, λ y z. omega arith)
+  silent-as Select a = (λ z. omega arith, λ z. omega arith, λ y z. omega arith)
+  silent-as Load a = (λ z. omega arith, λ z. refl, λ y z. omega arith)
+  silent-as Store a = (λ z. (refl, refl), λ z. refl, λ y z. refl)
+  silent-as Copy a = (λ z. omega arith, λ z. refl, λ y z. absurd (z a))
+  silent-as Goto a = (λ z. (refl, refl), λ z. refl, λ y z. refl)
+  silent-as Fork a = (λ z. (refl, refl), λ z. refl, λ y z. refl)
+
+  pub formed : Formed (decode c s)
+  unfolding decode
+  formed =
+      let d = decoded c s h in
+      let (still, single, silent) = silent-as (formatOf (opcode s)) (format-among (opcode s)) in
+      record {
+        s1 = omega (arith, d .s1);
+        s2 = omega (arith, d .s2);
+        s3 = d .s3;
+        t1 = d .t1;
+        t2 = d .t2;
+        code = rw (d .code) (opcode-below s);
+        still = rw (d .code) still;
+        single = rw (d .code) single;
+        silent = rw (d .code) silent;
+      }

@@ -1,0 +1,33 @@
+-- A register other than 0 is noted, with the delay that `delay` gives.
+use native.Mathlib.Omega.{arith}
+use borrow.Author.Tests.{eq-eqb, ne-eqb}
+use Rattle.gather.proofs.Growth.{grown-none}
+use borrow.Author.Needs.{needs}
+use Rattle.gather.proofs.result.Statement.{statement}
+use Rattle.gather.proofs.result.Tie as tie
+
+returns : tie.Need-returns
+returns c = rw (eq-eqb _ 0 (c .if1 .taken)) (grown-none 1 (c .before .pre .1 .0))
+
+delay-requires : tie.Need-delay-requires
+delay-requires c κs = search needs
+
+note-requires : tie.Need-note-requires
+note-requires c κs =
+    let h = c .before .before .before .before .before in
+    let a = h .args in
+    let p = h .pre .1 in
+    let l = rw (← c .before .before .before .delay .ensures) at (h .pre .0 (a .opcode) (a .r)) in
+    (p .0, (p .1 .0, p .1 .1, l .0, l .1))
+
+add-result : tie.Need-add-result
+add-result c = search needs
+
+returns-2 : tie.Need-returns-2
+returns-2 c =
+    let n = c .note .ensures in
+    rw (ne-eqb _ 0 (c .before .before .before .before .before .if1 .left), ← c .before .before .before .before .delay .ensures)
+    (record { results = n .0; few = omega arith; dests = n .1 .0; values = n .1 .1 })
+
+pub result-spec : {M : Type 1} → statement M
+result-spec = tie.close (tie.spec returns delay-requires note-requires add-result returns-2)

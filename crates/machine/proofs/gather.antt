@@ -1,5 +1,0 @@
--- Laws of the pass over an instruction's operations.
-pub mod Opcodes
-pub mod Growth
-pub mod Effects
-pub mod Passes

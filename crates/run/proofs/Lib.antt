@@ -1,0 +1,4 @@
+-- Laws of the run.
+pub mod Steps
+pub mod Turns
+pub mod Endings

@@ -1,0 +1,61 @@
+-- The arrays are locals, lent to the loop: the state is entered, run and left.
+use borrow.Author.Needs.{needs}
+use mathlib.Core.Path.{refl, _∙_, ap}
+use native.Mathlib.Omega.{arith}
+use Rattle.isa.specs.declared.Place.{Place}
+use Rattle.machine.specs.State.{registersOf}
+use Rattle.run.proofs.Endings.{zero-idle, left-bank, returned}
+use Rattle.ticks.proofs.Cells.{fits-of}
+use Rattle.run.proofs.run.Statement.{statement}
+use Rattle.run.proofs.run.Tie as tie
+
+enter-requires : tie.Need-enter-requires
+enter-requires c κs =
+    let h = c .before .before .before .before .before .before .before in
+    let p = h .pre in
+    (p .1 .0, (fits-of (registersOf (h .args .s)) (p .1 .1 .1), record { first = refl; second = refl; third = refl; fourth = refl }))
+
+run-all-requires : tie.Need-run-all-requires
+run-all-requires c κs =
+    let h = c .before .before .before .before .before .before .before .before .before .before .before .before .before .before .before .before .before .before .before in
+    let p = h .pre in
+    let e = c .before .before .before .before .before .before .before .before .before .before .before .enter .ensures in (
+      p .0,
+      (
+        record { bank = e .0; start = p .1 .1 .0; idle = rw (e .1) (zero-idle (registersOf (h .args .s)) (p .1 .1 .1)) },
+        (record { registers = refl; results = refl; delays = refl; places = refl; words = refl; sizes = refl }, omega (arith, h .fits)),
+      ),
+    )
+
+left-at-requires : tie.Need-left-at-requires
+left-at-requires c κs = omega (arith, c .before .before .run-all .ensures .few, c .before .before .before .before .before .before .before .before .before .before .before .before .before .before .before .before .before .before .before .before .before .before .fits)
+
+leave-requires : tie.Need-leave-requires
+leave-requires c κs =
+    let r = c .before .before .before .before .before .before .before .run-all in
+    rw (c .before .before .before .before .left-at .ensures) (left-bank (r .ensures .bank) (r .result .number))
+
+cast-t42 : tie.Need-cast-t42
+cast-t42 c = search needs
+
+same-length : tie.Need-same-length
+same-length c = search needs
+
+returns : tie.Need-returns
+returns c =
+    let e = c .before .before .before .before .before .before .before .before .before .before .before .before .before .before .before .before .before .before .before .before .before .enter .ensures in
+    let f = c .before .before .before .before .before .before .before .before .before .run-all .ensures in
+    let l = c .before .leave .ensures in
+    (rw (ap (λ (q : Place). q .0) (l .1 .0)) (f .start), returned (e .1) f (l .0) refl refl (ap (λ (q : Place). q .0) (l .1 .0)) (l .1 .1 ∙ rw (c .before .before .before .before .before .before .left-at .ensures)))
+
+pub run-spec : {M : Type 1} → statement M
+run-spec =
+    tie.close
+    (tie.spec
+    enter-requires
+    run-all-requires
+    left-at-requires
+    leave-requires
+    cast-t42
+    same-length
+    returns)

@@ -1,0 +1,64 @@
+-- Four stores are one result put.
+use borrow.Author.Needs.{needs}
+use Rattle.ticks.proofs.Views.{put-views, put-bank}
+use Rattle.ticks.proofs.put_one.Statement.{statement}
+use Rattle.ticks.proofs.put_one.Tie as tie
+
+read-requires : tie.Need-read-requires
+read-requires c κs = search needs
+
+mul-old : tie.Need-mul-old
+mul-old c = search needs
+
+element-write-old : tie.Need-element-write-old
+element-write-old c = search needs
+
+mul-value : tie.Need-mul-value
+mul-value c = search needs
+
+element-write-value : tie.Need-element-write-value
+element-write-value c = search needs
+
+add-ready : tie.Need-add-ready
+add-ready c = search needs
+
+mul-ready : tie.Need-mul-ready
+mul-ready c = search needs
+
+element-write-ready : tie.Need-element-write-ready
+element-write-ready c = search needs
+
+add-land : tie.Need-add-land
+add-land c = search needs
+
+mul-land : tie.Need-mul-land
+mul-land c = search needs
+
+element-write-land : tie.Need-element-write-land
+element-write-land c = search needs
+
+returns : tie.Need-returns
+returns c =
+    let h = c .before .before .before .before in
+    let a = h .args in
+    let p = h .pre .1 in (
+      put-bank (h .pre .0) (a .r) (p .0) (a .v) (a .b) (a .l) (c .read .result) (p .1) (p .2),
+      rw (c .read .ensures) (put-views (h .pre .0) (a .r) (p .0) (a .v) (a .b) (a .l)),
+    )
+
+pub put-one-spec : {M : Type 1} → statement M
+put-one-spec =
+    tie.close
+    (tie.spec
+    read-requires
+    mul-old
+    element-write-old
+    mul-value
+    element-write-value
+    add-ready
+    mul-ready
+    element-write-ready
+    add-land
+    mul-land
+    element-write-land
+    returns)

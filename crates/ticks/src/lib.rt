@@ -1,0 +1,408 @@
+// The registers in the run's loop: ticks in place of counts, so that nothing is stored when time passes.
+use isa::Place;
+use machine::State;
+ghost use mathlib.Core.Path.{_≡_};
+ghost use mathlib.Core.List.{_++_, _∷_, []};
+ghost use Prim.Native.Nat.{ℕ, _+_, _-_, _≤_, _<_};
+ghost use lib.Dec.{ltb};
+ghost use lib.ListN.{getD, set, drop};
+ghost use lib.Seq.{sets, slice};
+ghost use Rattle.vliw.specs.Cell.{at, landedOf, put, puts, choose};
+ghost use Rattle.vliw.specs.Machine.{writes};
+ghost use Rattle.machine.specs.State.{cells, registersOf, Sized};
+ghost use Rattle.ticks.specs.Ticks.{Sizes, views, valueAt, waitingAt, Bank, Fit, destsIn, valuesIn, Results};
+
+// The value of register r, landed or not.
+pub fn read(value: &[u32; 288], old: &[u32; 288], land: &[u64; 288], r: u32, t: u64) -> u32
+    requires { ⌜ r < 288 ⌝ }
+    ensures { λ v. ⌜ v ≡ valueAt t (now (value .entry)) (now (old .entry)) (now (land .entry)) r ⌝ }
+{
+    let i = r as usize;
+    if t < land[i] { old[i] } else { value[i] }
+}
+
+// Whether register r is busy.
+pub fn late(ready: &[u64; 288], r: u32, t: u64) -> bool
+    requires { ⌜ r < 288 ⌝ }
+    ensures { λ b. ⌜ b ≡ ltb t (getD (now (ready .entry)) r 0) ⌝ }
+{
+    t < ready[r as usize]
+}
+
+// A result v for register r, busy for b more ticks, that lands after l of them.
+fn put_one(
+    value: &mut [u32; 288],
+    old: &mut [u32; 288],
+    ready: &mut [u64; 288],
+    land: &mut [u64; 288],
+    r: u32,
+    v: u32,
+    b: u64,
+    l: u64,
+    t: u64,
+)
+    requires { ⌜ Bank t (now value) (now old) (now ready) (now land) ⌝ }
+    requires { ⌜ (r < 288) × (l ≤ b) × (b ≤ 7) × (t ≤ 4294967296) ⌝ }
+    ensures bank { λ _. ⌜ Bank t (now (value .exit)) (now (old .exit)) (now (ready .exit)) (now (land .exit)) ⌝ }
+    ensures is { λ _. ⌜ views t (now (value .exit)) (now (old .exit)) (now (ready .exit)) (now (land .exit))
+        ≡ put (record { reg = r; result = v; busy = b; landing = l })
+        (views t (now (value .entry)) (now (old .entry)) (now (ready .entry)) (now (land .entry))) ⌝ }
+{
+    let i = r as usize;
+    old[i] = read(value, old, land, r, t);
+    value[i] = v;
+    ready[i] = t + b;
+    land[i] = t + l;
+}
+
+// A call, since a cast of an element would ask for its bound besides its index.
+fn wide(x: u8) -> u64
+    ensures { λ r. ⌜ r ≡ x ⌝ }
+{
+    x as u64
+}
+
+// The landing of a result with delay l that takes landing byte i, if there is one.
+fn chosen(landing: &[u8], i: usize, l: u64) -> u64
+    requires { ⌜ 0 < l ⌝ }
+    ensures { λ r. ⌜ r ≡ choose l (drop i (now (landing .entry))) ⌝ }
+{
+    if i < landing.len() {
+        wide(landing[i]) % l
+    } else {
+        l - 1
+    }
+}
+
+// The result v for register r, of delay l, with landing byte i.
+fn commit_one(
+    value: &mut [u32; 288],
+    old: &mut [u32; 288],
+    ready: &mut [u64; 288],
+    land: &mut [u64; 288],
+    r: u32,
+    v: u32,
+    l: u64,
+    landing: &[u8],
+    i: usize,
+    t: u64,
+)
+    requires { ⌜ Bank t (now value) (now old) (now ready) (now land) ⌝ }
+    requires { ⌜ (r < 288) × (0 < l) × (l ≤ 8) × (t ≤ 4294967296) ⌝ }
+    ensures bank { λ _. ⌜ Bank t (now (value .exit)) (now (old .exit)) (now (ready .exit)) (now (land .exit)) ⌝ }
+    ensures is { λ _. ⌜ views t (now (value .exit)) (now (old .exit)) (now (ready .exit)) (now (land .exit))
+        ≡ put (record { reg = r; result = v; busy = l - 1; landing = choose l (drop i (now (landing .entry))) })
+        (views t (now (value .entry)) (now (old .entry)) (now (ready .entry)) (now (land .entry))) ⌝ }
+{
+    let d = chosen(landing, i, l);
+    put_one(value, old, ready, land, r, v, l - 1, d, t);
+}
+
+// The results of an instruction, in order, the first with landing byte `used`.
+pub fn commit(
+    value: &mut [u32; 288],
+    old: &mut [u32; 288],
+    ready: &mut [u64; 288],
+    land: &mut [u64; 288],
+    reg: &[u32; 64],
+    val: &[u32; 64],
+    del: &[u64; 64],
+    count: usize,
+    landing: &[u8],
+    used: usize,
+    t: u64,
+)
+    requires { ⌜ Bank t (now value) (now old) (now ready) (now land) ⌝ }
+    requires { ⌜ Results (now reg) (now val) (now del) count ⌝ }
+    requires { ⌜ (t ≤ 4294967296) × (used + count < 18446744073709551616) ⌝ }
+    ensures bank { λ _. ⌜ Bank t (now (value .exit)) (now (old .exit)) (now (ready .exit)) (now (land .exit)) ⌝ }
+    ensures is { λ _. ⌜ views t (now (value .exit)) (now (old .exit)) (now (ready .exit)) (now (land .exit))
+        ≡ puts (writes (destsIn (now (reg .entry)) (now (del .entry)) count) (valuesIn (now (val .entry)) count) (drop used (now (landing .entry))))
+        (views t (now (value .entry)) (now (old .entry)) (now (ready .entry)) (now (land .entry))) ⌝ }
+{
+    for k in 0..count {
+        commit_one(
+            value,
+            old,
+            ready,
+            land,
+            reg[k],
+            val[k],
+            del[k],
+            landing,
+            used + k,
+            t,
+        );
+    }
+}
+
+// One more result of the instruction: v for register r, of delay l.
+pub fn note(
+    reg: &mut [u32; 64],
+    val: &mut [u32; 64],
+    del: &mut [u64; 64],
+    count: usize,
+    r: u32,
+    v: u32,
+    l: u64,
+)
+    requires { ⌜ Results (now reg) (now val) (now del) count ⌝ }
+    requires { ⌜ (count < 64) × (r < 288) × (0 < l) × (l ≤ 8) ⌝ }
+    ensures results { λ _. ⌜ Results (now (reg .exit)) (now (val .exit)) (now (del .exit)) (count + 1) ⌝ }
+    ensures dests { λ _. ⌜ destsIn (now (reg .exit)) (now (del .exit)) (count + 1)
+        ≡ destsIn (now (reg .entry)) (now (del .entry)) count ++ (record { reg = r; delay = l } ∷ []) ⌝ }
+    ensures values { λ _. ⌜ valuesIn (now (val .exit)) (count + 1) ≡ valuesIn (now (val .entry)) count ++ (v ∷ []) ⌝ }
+{
+    reg[count] = r;
+    val[count] = v;
+    del[count] = l;
+}
+
+// ---- from the state to the loop's arrays, and back
+
+// The value of a register once everything has landed.
+fn landed(v: u32, w: u32, l: u8) -> u32
+    ensures { λ r. ⌜ r ≡ landedOf v w l ⌝ }
+{
+    if l == 0 { v } else { w }
+}
+
+// Register i of the loop, from a register of the state.
+fn enter_one(
+    value: &mut [u32; 288],
+    old: &mut [u32; 288],
+    ready: &mut [u64; 288],
+    land: &mut [u64; 288],
+    i: usize,
+    v: u32,
+    w: u32,
+    b: u8,
+    l: u8,
+)
+    requires { ⌜ Sizes 288 (now value) (now old) (now ready) (now land) ⌝ }
+    requires { ⌜ i < 288 ⌝ }
+    requires { ⌜ (l ≡ 0 → w ≡ 0) ⌝ }
+    ensures sizes { λ _. ⌜ Sizes 288 (now (value .exit)) (now (old .exit)) (now (ready .exit)) (now (land .exit)) ⌝ }
+    ensures is { λ _. ⌜ views 0 (now (value .exit)) (now (old .exit)) (now (ready .exit)) (now (land .exit))
+        ≡ set (views 0 (now (value .entry)) (now (old .entry)) (now (ready .entry)) (now (land .entry)))
+        i (record { value = v; waiting = w; busy = b; landing = l }) ⌝ }
+{
+    value[i] = landed(v, w, l);
+    old[i] = v;
+    ready[i] = b as u64;
+    land[i] = l as u64;
+}
+
+// The n registers from `base` on, from four arrays of the state.
+fn enter_bank<'a>(
+    value: &mut [u32; 288],
+    old: &mut [u32; 288],
+    ready: &mut [u64; 288],
+    land: &mut [u64; 288],
+    base: usize,
+    n: usize,
+    v: &'a [u32],
+    w: &'a [u32],
+    b: &'a [u8],
+    l: &'a [u8],
+)
+    requires { ⌜ Sizes 288 (now value) (now old) (now ready) (now land) ⌝ }
+    requires { ⌜ Sizes n (now v) (now w) (now b) (now l) ⌝ }
+    requires { ⌜ base + n ≤ 288 ⌝ }
+    requires { ⌜ ((k : ℕ) → k < n → Fit (at (cells (now v) (now w) (now b) (now l)) k)) ⌝ }
+    ensures sizes { λ _. ⌜ Sizes 288 (now (value .exit)) (now (old .exit)) (now (ready .exit)) (now (land .exit)) ⌝ }
+    ensures is { λ _. ⌜ views 0 (now (value .exit)) (now (old .exit)) (now (ready .exit)) (now (land .exit))
+        ≡ sets (views 0 (now (value .entry)) (now (old .entry)) (now (ready .entry)) (now (land .entry)))
+        base (cells (now (v .entry)) (now (w .entry)) (now (b .entry)) (now (l .entry))) ⌝ }
+{
+    for k in 0..n {
+        enter_one(value, old, ready, land, base + k, v[k], w[k], b[k], l[k]);
+    }
+}
+
+// The registers as a call begins, at tick 0.
+pub fn enter(
+    s: State,
+    value: &mut [u32; 288],
+    old: &mut [u32; 288],
+    ready: &mut [u64; 288],
+    land: &mut [u64; 288],
+)
+    requires { ⌜ Sized s ⌝ }
+    requires { ⌜ ((r : ℕ) → r < 288 → Fit (at (registersOf s) r)) ⌝ }
+    requires { ⌜ Sizes 288 (now value) (now old) (now ready) (now land) ⌝ }
+    ensures bank { λ _. ⌜ Bank 0 (now (value .exit)) (now (old .exit)) (now (ready .exit)) (now (land .exit)) ⌝ }
+    ensures is { λ _. ⌜ views 0 (now (value .exit)) (now (old .exit)) (now (ready .exit)) (now (land .exit)) ≡ registersOf s ⌝ }
+{
+    enter_bank(
+        value,
+        old,
+        ready,
+        land,
+        0,
+        256,
+        &s.value,
+        &s.waiting,
+        &s.busy,
+        &s.landing,
+    );
+    enter_bank(
+        value,
+        old,
+        ready,
+        land,
+        256,
+        32,
+        &s.branch_value,
+        &s.branch_waiting,
+        &s.branch_busy,
+        &s.branch_landing,
+    );
+}
+
+// The waiting value of register r.
+fn waiting(value: &[u32; 288], land: &[u64; 288], r: u32, t: u64) -> u32
+    requires { ⌜ r < 288 ⌝ }
+    ensures { λ w. ⌜ w ≡ waitingAt t (now (value .entry)) (now (land .entry)) r ⌝ }
+{
+    let i = r as usize;
+    if t < land[i] { value[i] } else { 0 }
+}
+
+// How many ticks are left at tick t until tick `until`.
+fn left(until: u64, t: u64) -> u8
+    requires { ⌜ until ≤ t + 7 ⌝ }
+    ensures { λ r. ⌜ r ≡ until - t ⌝ }
+{
+    if t < until { (until - t) as u8 } else { 0 }
+}
+
+// Register r of the loop, to element k of four arrays of the state, of n elements.
+fn leave_one(
+    value: &[u32; 288],
+    old: &[u32; 288],
+    ready: &[u64; 288],
+    land: &[u64; 288],
+    t: u64,
+    r: u32,
+    n: usize,
+    v: &mut [u32],
+    w: &mut [u32],
+    b: &mut [u8],
+    l: &mut [u8],
+    k: usize,
+)
+    requires { ⌜ Bank t (now value) (now old) (now ready) (now land) ⌝ }
+    requires { ⌜ Sizes n (now v) (now w) (now b) (now l) ⌝ }
+    requires { ⌜ (r < 288) × (k < n) ⌝ }
+    ensures sizes { λ _. ⌜ Sizes n (now (v .exit)) (now (w .exit)) (now (b .exit)) (now (l .exit)) ⌝ }
+    ensures is { λ _. ⌜ cells (now (v .exit)) (now (w .exit)) (now (b .exit)) (now (l .exit))
+        ≡ set (cells (now (v .entry)) (now (w .entry)) (now (b .entry)) (now (l .entry)))
+        k (at (views t (now (value .entry)) (now (old .entry)) (now (ready .entry)) (now (land .entry))) r) ⌝ }
+{
+    let i = r as usize;
+    v[k] = read(value, old, land, r, t);
+    w[k] = waiting(value, land, r, t);
+    b[k] = left(ready[i], t);
+    l[k] = left(land[i], t);
+}
+
+// The n registers from `base` on, to four arrays of the state.
+fn leave_bank(
+    value: &[u32; 288],
+    old: &[u32; 288],
+    ready: &[u64; 288],
+    land: &[u64; 288],
+    t: u64,
+    base: usize,
+    n: usize,
+    v: &mut [u32],
+    w: &mut [u32],
+    b: &mut [u8],
+    l: &mut [u8],
+)
+    requires { ⌜ Bank t (now value) (now old) (now ready) (now land) ⌝ }
+    requires { ⌜ Sizes n (now v) (now w) (now b) (now l) ⌝ }
+    requires { ⌜ base + n ≤ 288 ⌝ }
+    ensures sizes { λ _. ⌜ Sizes n (now (v .exit)) (now (w .exit)) (now (b .exit)) (now (l .exit)) ⌝ }
+    ensures is { λ _. ⌜ cells (now (v .exit)) (now (w .exit)) (now (b .exit)) (now (l .exit))
+        ≡ slice base (base + n) (views t (now (value .entry)) (now (old .entry)) (now (ready .entry)) (now (land .entry))) ⌝ }
+{
+    for k in 0..n {
+        leave_one(
+            value,
+            old,
+            ready,
+            land,
+            t,
+            (base + k) as u32,
+            n,
+            v,
+            w,
+            b,
+            l,
+            k,
+        );
+    }
+}
+
+// The state at tick t, at a place.
+pub fn leave(
+    value: &[u32; 288],
+    old: &[u32; 288],
+    ready: &[u64; 288],
+    land: &[u64; 288],
+    t: u64,
+    place: Place,
+) -> State
+    requires { ⌜ Bank t (now value) (now old) (now ready) (now land) ⌝ }
+    ensures sized { λ s. ⌜ Sized s ⌝ }
+    ensures at { λ s. ⌜ s .place ≡ place ⌝ }
+    ensures is { λ s. ⌜ registersOf s ≡ views t (now (value .entry)) (now (old .entry)) (now (ready .entry)) (now (land .entry)) ⌝ }
+{
+    let mut v = [0u32; 256];
+    let mut w = [0u32; 256];
+    let mut b = [0u8; 256];
+    let mut l = [0u8; 256];
+    leave_bank(
+        value,
+        old,
+        ready,
+        land,
+        t,
+        0,
+        256,
+        &mut v,
+        &mut w,
+        &mut b,
+        &mut l,
+    );
+    let mut branch_v = [0u32; 32];
+    let mut branch_w = [0u32; 32];
+    let mut branch_b = [0u8; 32];
+    let mut branch_l = [0u8; 32];
+    leave_bank(
+        value,
+        old,
+        ready,
+        land,
+        t,
+        256,
+        32,
+        &mut branch_v,
+        &mut branch_w,
+        &mut branch_b,
+        &mut branch_l,
+    );
+    State {
+        place,
+        value: v,
+        waiting: w,
+        busy: b,
+        landing: l,
+        branch_value: branch_v,
+        branch_waiting: branch_w,
+        branch_busy: branch_b,
+        branch_landing: branch_l,
+    }
+}
