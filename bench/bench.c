@@ -1,0 +1,115 @@
+/* Times two libraries with the sandbox's C interface in one process, by turns, on the same calls: bench PROVED.so SECOND.so */
+#define _POSIX_C_SOURCE 200809L
+#include <dlfcn.h>
+#include <stdio.h>
+#include <stdlib.h>
+#include <string.h>
+#include <time.h>
+
+#include "kernels.h"
+#include "vex.h"
+
+enum { PROVED, SECOND, LIBRARIES };
+enum { ROUNDS = 40, MEMORY = 4096 };
+#define SAMPLE_SECONDS 0.02
+
+/* One library: its entries, and slices of its own, so that the two can be compared after each sample. */
+struct library {
+    uint32_t (*load)(const uint8_t *, size_t, const uint8_t *, size_t, uint8_t *, size_t);
+    uint32_t (*check)(const uint8_t *, size_t, const uint8_t *, size_t, uint8_t *, size_t);
+    uint32_t (*run)(const uint8_t *, size_t, const uint8_t *, size_t, uint8_t *, size_t, uint8_t *, size_t, const uint8_t *, size_t, uint32_t,
+                    uint8_t *, size_t);
+    uint8_t state[VEX_STATE_BYTES], memory[MEMORY], room[VEX_ROOM_BYTES];
+};
+
+struct measure {
+    const char *name;
+    enum { LOAD, CHECK, RUN } entry;
+    const struct kernel *kernel;
+    uint32_t n;      /* instructions a call */
+    double unit;     /* how many units a call has: its time is told for one */
+    const char *per; /* ns or us */
+};
+
+static void fail(const char *what, const char *why) {
+    fprintf(stderr, "bench: %s: %s\n", what, why);
+    exit(1);
+}
+
+static void entry(void *handle, const char *name, void *to) {
+    void *found = dlsym(handle, name);
+    if (found == NULL) fail(name, dlerror());
+    memcpy(to, &found, sizeof found);
+}
+
+static void open_library(struct library *l, const char *path) {
+    void *handle = dlopen(path, RTLD_NOW | RTLD_LOCAL);
+    if (handle == NULL) fail(path, dlerror());
+    entry(handle, "vex_load", &l->load);
+    entry(handle, "vex_check", &l->check);
+    entry(handle, "vex_run", &l->run);
+}
+
+static uint32_t call(struct library *l, const struct measure *m) {
+    const struct kernel *k = m->kernel;
+    if (m->entry == LOAD) return l->load(k->table, k->table_len, k->program, k->program_len, l->room, sizeof l->room);
+    if (m->entry == CHECK) return l->check(k->table, k->table_len, k->program, k->program_len, l->room, sizeof l->room);
+    return l->run(k->table, k->table_len, k->program, k->program_len, l->state, sizeof l->state, l->memory, sizeof l->memory, NULL, 0, m->n,
+                  l->room, sizeof l->room);
+}
+
+/* The seconds that so many calls take, from zeros. */
+static double sample(struct library *l, const struct measure *m, unsigned long calls) {
+    struct timespec from, to;
+    memset(l->state, 0, sizeof l->state);
+    memset(l->memory, 0, sizeof l->memory);
+    clock_gettime(CLOCK_MONOTONIC, &from);
+    for (unsigned long i = 0; i < calls; i++)
+        if (call(l, m) != 0) fail(m->name, "the kernel is not taken");
+    clock_gettime(CLOCK_MONOTONIC, &to);
+    return (double)(to.tv_sec - from.tv_sec) + 1e-9 * (double)(to.tv_nsec - from.tv_nsec);
+}
+
+/* The least time of a call of each library, sampled by turns. */
+static void measure(struct library *l, const struct measure *m, double best[LIBRARIES]) {
+    unsigned long calls = 1;
+    while (sample(&l[SECOND], m, calls) < SAMPLE_SECONDS) calls *= 2;
+    best[PROVED] = best[SECOND] = 1e9;
+    for (int round = 0; round < ROUNDS; round++) {
+        for (int turn = 0; turn < LIBRARIES; turn++) {
+            int which = (turn + round) % LIBRARIES;
+            double seconds = sample(&l[which], m, calls) / (double)calls;
+            if (seconds < best[which]) best[which] = seconds;
+        }
+        if (memcmp(l[PROVED].room, l[SECOND].room, VEX_ROOM_BYTES) != 0 || memcmp(l[PROVED].state, l[SECOND].state, VEX_STATE_BYTES) != 0 ||
+            memcmp(l[PROVED].memory, l[SECOND].memory, MEMORY) != 0)
+            fail(m->name, "the two libraries differ");
+    }
+}
+
+int main(int argc, char **argv) {
+    static struct library libraries[LIBRARIES];
+    if (argc != 3) fail("usage", "bench PROVED.so SECOND.so");
+    open_library(&libraries[PROVED], argv[1]);
+    open_library(&libraries[SECOND], argv[2]);
+
+    const struct kernel *narrow = narrow_kernel(), *wide = wide_kernel(), *full = full_kernel();
+    const struct measure measures[] = {
+        {"load of 4,096 syllables", LOAD, full, 0, 1e-6, "us"},
+        {"check of 4,096 syllables", CHECK, full, 0, 1e-6, "us"},
+        {"run narrow, one instruction", RUN, narrow, 10000, 10000 * 1e-9, "ns"},
+        {"run wide, one instruction", RUN, wide, 10000, 10000 * 1e-9, "ns"},
+        {"slice of one instruction", RUN, full, 1, 1e-6, "us"},
+    };
+    printf("%-30s %12s %12s %8s\n", "", "proved", "second", "ratio");
+    for (size_t i = 0; i < sizeof measures / sizeof measures[0]; i++) {
+        const struct measure *m = &measures[i];
+        double best[LIBRARIES];
+        measure(libraries, m, best);
+        printf("%-30s %9.1f %s %9.1f %s %8.2f\n", m->name, best[PROVED] / m->unit, m->per, best[SECOND] / m->unit, m->per,
+               best[SECOND] / best[PROVED]);
+        fflush(stdout);
+    }
+    printf("ratio: second's time by proved's; above 1 the proved library is the faster one. Only ratios of one run compare.\n");
+    return 0;
+}

@@ -1,0 +1,114 @@
+/* The preview sandbox for C and C++: three calls that load, check and run an effect. They hold to document 01.
+ *
+ * Slices. A slice is a pointer and a length in bytes. The pointer stands for that many bytes, readable, and writable for state, memory and
+ * room. No two slices of one call overlap. Alignment is free. A pointer may be null where its length is 0: the example host's self-test
+ * tries that with every slice, but no proof covers it.
+ *
+ * Words. Numbers inside slices are 4 bytes, highest byte first. A place is a syllable's index: byte offset 4 * place of the program.
+ *
+ * Nothing is kept between calls: what an effect is doing stands in the state image and the memory, both the host's own. Calls on
+ * different slices may be made by several threads at once. No call asks anything more of its caller: every other input is answered.
+ */
+#ifndef VEX_H
+#define VEX_H
+
+#include <stddef.h>
+#include <stdint.h>
+
+#ifdef __cplusplus
+extern "C" {
+#endif
+
+/* The delay table. Byte 0: the cluster count C. Then 5 bytes for each cluster: width (syllables an instruction), and how many ALU, MUL, MEM
+ * and COPY operations an instruction may have there. Then 5 delays: ALU, CMPB, MUL, LOAD, COPY. */
+#define VEX_TABLE_BYTES(clusters) (6 + 5 * (clusters))
+#define VEX_CLUSTERS_MAX 4 /* from 1 */
+#define VEX_WIDTH_MAX 8    /* from 1 */
+#define VEX_ALU_MAX 8      /* from 0 */
+#define VEX_UNITS_MAX 4    /* from 0; MUL, MEM and COPY each */
+#define VEX_DELAY_MAX 8    /* from 1 */
+
+/* The program: 1 to 4,096 syllables, each a word. Bit 31 ends an instruction, bit 30 starts a cluster. */
+#define VEX_SYLLABLE_BYTES 4
+#define VEX_PROGRAM_BYTES_MAX 16384
+
+/* The memory: 0 to 65,536 bytes, address 0 first. */
+#define VEX_MEMORY_BYTES_MAX 65536
+
+/* The answer room: number, count, place, a word each. A room of any other length is never written. */
+#define VEX_ROOM_BYTES 12
+#define VEX_ROOM_NUMBER 0
+#define VEX_ROOM_COUNT 4
+#define VEX_ROOM_PLACE 8
+
+/* The state image: the place, a word; then the 64 general registers of cluster 0, of cluster 1, 2 and 3; then the 8 branch registers of
+ * each. All are there whatever the table says. An effect starts from an image of zeros. A register has 10 bytes: value and waiting value,
+ * a word each; busy and landing, a byte each. VEX_STATE_GENERAL and VEX_STATE_BRANCH give the offset of a register. */
+#define VEX_STATE_BYTES 2884
+#define VEX_STATE_PLACE 0
+#define VEX_STATE_GENERAL(cluster, number) (4 + 10 * (64 * (cluster) + (number)))
+#define VEX_STATE_BRANCH(cluster, number) (2564 + 10 * (8 * (cluster) + (number)))
+#define VEX_REGISTER_VALUE 0
+#define VEX_REGISTER_WAITING 4
+#define VEX_REGISTER_BUSY 8
+#define VEX_REGISTER_LANDING 9
+#define VEX_BUSY_MAX 7
+
+/* The numbers. Each is tested over the whole input before the next, and the lowest place is named. In brackets: what the place is. */
+enum {
+    VEX_GOOD = 0,            /* load, check: nothing is wrong [0] */
+    VEX_PAUSED = 0,          /* run: n instructions are done [the one to come] */
+    VEX_BAD_TABLE = 1,       /* the table breaks a limit [0] */
+    VEX_BAD_LENGTH = 2,      /* a length is wrong [0 program, 1 memory, 2 state, 3 room; the first in this order] */
+    VEX_NO_END = 3,          /* the last syllable lacks bit 31 [it] */
+    VEX_BAD_BITS = 4,        /* opcode 0 is neither nop nor stop, or a bit that should be zero is set [the syllable] */
+    VEX_BAD_CLUSTER = 5,     /* an instruction's first syllable lacks bit 30; more clusters are opened than the table has; control stands
+                                outside cluster 0; a copy is from its own cluster or from one the table has not [the syllable] */
+    VEX_TOO_WIDE = 6,        /* a cluster has more syllables than its width or more of a class than its count; or there are two control
+                                syllables [the instruction's first syllable] */
+    VEX_TWO_WRITES = 7,      /* an instruction names one register twice as destination [its first syllable] */
+    VEX_BAD_CONTROL = 8,     /* a target is no instruction's first syllable; a stop has company [the control syllable]; the last
+                                instruction has neither goto nor stop [its first syllable] */
+    VEX_TOO_SOON = 9,        /* check only: a register is read or written while a result for it may be in flight [first syllables: the
+                                producer's in the count's field, the consumer's in the place's] */
+    VEX_BAD_STATE = 10,      /* run: the state image is not valid [0] */
+    VEX_IN_FLIGHT = 11,      /* run: a register that is busy is read or is a destination [11 to 14: the instruction's first syllable] */
+    VEX_MISALIGNED = 12,     /* run: an address is no multiple of the access size */
+    VEX_OUT_OF_BOUNDS = 13,  /* run: an access ends beyond the memory */
+    VEX_STORES_CLASH = 14,   /* run: two stores of one instruction share a byte */
+    VEX_STOPPED = 255        /* run: the effect is at a stop [the stop] */
+};
+
+/* Loads: says whether the program is one under this table. Gives 0 to 8, and tests the lengths of program and room only.
+ *   table, program   read
+ *   room             written with number, count 0 and place; a good load gives 0, 0, 0
+ * Returns the number, also where the room cannot be written. */
+uint32_t vex_load(const uint8_t *table, size_t table_len, const uint8_t *program, size_t program_len, uint8_t *room, size_t room_len);
+
+/* Loads and checks the schedule: 0 to 8 as vex_load, then 9. Everything else as for vex_load. A program that passes, started from an image
+ * of zeros, never gives 11, and its memory, counts and places are the same whatever the landing bytes are. */
+uint32_t vex_check(const uint8_t *table, size_t table_len, const uint8_t *program, size_t program_len, uint8_t *room, size_t room_len);
+
+/* Runs at most n instructions from where the state stands. Gives 0 to 8, 10 to 14 and 255; the schedule is not checked.
+ *   table, program   read
+ *   state            the image; written with where the effect stands
+ *   memory           written by the effect's stores
+ *   landing          read: the i-th result of this call, by instruction and syllable, those to register 0 not counted, lands
+ *                    1 + (byte i modulo its delay) instructions on; past the end of the list it takes its whole delay. Any length is
+ *                    good, and 0 is the usual one
+ *   n                how many instructions at most; a stop, though not counted, is met only before n is used up; with n = 0 everything
+ *                    is tested and nothing changes
+ *   room             written with number, how many instructions were executed in this call, and place
+ * Returns the number, also where the room cannot be written. State and memory after the call:
+ *   0                n instructions are done; call again to go on
+ *   255              all before the stop are done and everything has landed; the stop is not counted, and the place stays at it
+ *   11 to 14         all before the faulting instruction are done, nothing of it is; a further call faults at the same place
+ *   1 to 8, 10       state and memory are as they were, and the count is 0 */
+uint32_t vex_run(const uint8_t *table, size_t table_len, const uint8_t *program, size_t program_len, uint8_t *state, size_t state_len,
+                 uint8_t *memory, size_t memory_len, const uint8_t *landing, size_t landing_len, uint32_t n, uint8_t *room, size_t room_len);
+
+#ifdef __cplusplus
+}
+#endif
+
+#endif
