@@ -1,4 +1,4 @@
--- The theorems of load's promise, and of check's.
+-- The theorems of the entries' promises.
 use mathlib.Core.Path.{_≡_, refl, _∙_, sym, ap}
 use mathlib.Core.List.{List}
 use Prim.Native.Nat.{ℕ}
@@ -16,10 +16,12 @@ use Rattle.schedule.specs.Answer.{verdictAnswer, Checks}
 use Rattle.schedule.specs.declared.Verdict.{Verdict}
 use Rattle.schedule.specs.declared.Verdict.the-variants.{Clean}
 use Rattle.schedule.proofs.Once.{one-outcome}
-use Rattle.sandbox.specs.Promise.{Load, Check}
+use Rattle.sandbox.specs.Promise.{Load, Check, Run}
 use Rattle.sandbox.specs.Wrong.{table, program, room, Wrong}
 use Rattle.sandbox.specs.Schedules.{two, three, SaidOf, clash, WrongCheck}
 use Rattle.sandbox.proofs.Examples.{two-on, three-on, examples}
+use Rattle.sandbox.proofs.ExamplesValues.{checked}
+use Rattle.sandbox.proofs.ExamplesRun.{wrong-run}
 
 number : Outcome → ℕ
 number o = o .result
@@ -60,3 +62,6 @@ wrong-check = record {
 
 pub check : Check
 check = record { settles = λ i. one-outcome (i .table) (i .program) (i .room); wrong = wrong-check; examples = examples }
+
+pub run : Run
+run = record { settles = λ i a b p q. p ∙ sym q; wrong = wrong-run; checked = checked }

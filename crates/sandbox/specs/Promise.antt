@@ -6,8 +6,12 @@ use Rattle.loader.specs.Load.{loadedOf}
 use Rattle.loader.specs.Answer.{loadAnswer, Outcome, loadOutcome}
 use Rattle.loader.specs.Exact.{Exact}
 use Rattle.schedule.specs.Answer.{Checks}
+use Rattle.machine.specs.Run.{runOutcome}
+use Rattle.machine.specs.Run.{Call as RunCall, Outcome as RunOutcome}
 use Rattle.sandbox.specs.Wrong.{Wrong}
 use Rattle.sandbox.specs.Schedules.{Examples, WrongCheck}
+use Rattle.sandbox.specs.WrongRun.{WrongRun}
+use Rattle.sandbox.specs.Checked.{Checked}
 
 -- a promise that admits one outcome only
 abbrev pub Settles : {I O : Type 0} → (I → O → Type 0) → Type 0
@@ -37,3 +41,11 @@ pub record Check : Type 0 where
   pub wrong : WrongCheck
   -- what the rule says of three schedules
   pub examples : Examples
+
+pub record Run : Type 0 where
+  -- one outcome for every input
+  pub settles : Settles (λ (c : RunCall) (o : RunOutcome). o ≡ runOutcome c)
+  -- runs that refuse everything, do nothing, give one state, finish at once, invent the count or ignore landing bytes break the promise
+  pub wrong : WrongRun
+  -- the checked values of document 01
+  pub checked : Checked

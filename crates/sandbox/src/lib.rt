@@ -2,7 +2,7 @@
 ghost use mathlib.Core.Path.{_≡_};
 ghost use Rattle.loader.specs.Answer.{loadOutcome};
 ghost use Rattle.machine.specs.Run.{runOutcome};
-ghost use Rattle.sandbox.specs.Promise.{Load, Check};
+ghost use Rattle.sandbox.specs.Promise.{Load, Check, Run};
 ghost use Rattle.schedule.specs.Answer.{Answers, Checks};
 
 mod call;
@@ -82,4 +82,9 @@ pub fn load_theorems()
 // The same of check's promise.
 pub fn check_theorems()
     ensures { λ _. ⌜ Check ⌝ }
+{}
+
+// The same of run's promise.
+pub fn run_theorems()
+    ensures { λ _. ⌜ Run ⌝ }
 {}

@@ -1,0 +1,90 @@
+-- Runs that break the promise of run, each at a named input.
+use mathlib.Core.Path.{_≡_}
+use mathlib.Core.List.{List, [], _∷_}
+use Prim.Native.Nat.{ℕ}
+use lib.Dec.{eqb}
+use lib.ListN.{replicate}
+use Rattle.word.specs.Choice.{pick}
+use Rattle.word.specs.Bytes.{wordAt}
+use Rattle.loader.specs.Answer.{answer, roomWith}
+use Rattle.machine.specs.Image.{placeIn}
+use Rattle.machine.specs.Run.{Call, Outcome, runOutcome}
+use Rattle.sandbox.specs.Wrong.{table, program, room}
+
+-- a state of zeros
+abbrev pub zeros : List ℕ
+zeros = replicate 2884 0
+
+-- n instructions of a program from there, with these landing bytes and no memory
+abbrev pub calling : List ℕ → List ℕ → ℕ → Call
+calling program landing n =
+    record { table = table; program = program; state = zeros; memory = []; landing = landing; n = n; room = room }
+
+-- document 01's example
+abbrev pub example : ℕ → Call
+example n = calling program [] n
+
+-- cmpeq to branch register 0 of registers 0 and 0, with CMPB 2; stop
+abbrev pub comparing : List ℕ → Call
+comparing landing = calling (0xE8 ∷ 0x00 ∷ 0x00 ∷ 0x00 ∷ 0xC0 ∷ 0x04 ∷ 0x00 ∷ 0x00 ∷ []) landing 1
+
+-- the same call with another limit, with other landing bytes
+abbrev pub withLimit : ℕ → Call → Call
+withLimit n c =
+    record {
+      table = c .table;
+      program = c .program;
+      state = c .state;
+      memory = c .memory;
+      landing = c .landing;
+      n = n;
+      room = c .room;
+    }
+
+abbrev pub withLanding : List ℕ → Call → Call
+withLanding landing c =
+    record {
+      table = c .table;
+      program = c .program;
+      state = c .state;
+      memory = c .memory;
+      landing = landing;
+      n = c .n;
+      room = c .room;
+    }
+
+abbrev pub refusesAllRuns : Call → Outcome
+refusesAllRuns c = record { result = 1; state = c .state; memory = c .memory; room = roomWith (answer 1 0 0) (c .room) }
+
+abbrev pub doesNothing : Call → Outcome
+doesNothing c =
+    record { result = 0; state = c .state; memory = c .memory; room = roomWith (answer 0 0 (placeIn (c .state))) (c .room) }
+
+abbrev pub oneState : Call → Outcome
+oneState c = let o = runOutcome c in record { result = o .result; state = zeros; memory = o .memory; room = o .room }
+
+-- all of the effect in the first instruction, and then nothing more
+abbrev pub finishesFirst : Call → Outcome
+finishesFirst c = pick (eqb (c .n) 0) (runOutcome c) (runOutcome (withLimit 4294967295 c))
+
+-- as many instructions executed as were asked for
+abbrev pub inventsCount : Call → Outcome
+inventsCount c =
+    let o = runOutcome c in
+    record {
+      result = o .result;
+      state = o .state;
+      memory = o .memory;
+      room = roomWith (answer (o .result) (c .n) (wordAt 8 (o .room))) (c .room);
+    }
+
+abbrev pub ignoresLanding : Call → Outcome
+ignoresLanding c = runOutcome (withLanding [] c)
+
+pub record WrongRun : Type 0 where
+  pub refusing : refusesAllRuns (example 16) ≡ runOutcome (example 16) → ⊥
+  pub nothing : doesNothing (example 16) ≡ runOutcome (example 16) → ⊥
+  pub fixed : oneState (example 16) ≡ runOutcome (example 16) → ⊥
+  pub atOnce : finishesFirst (example 1) ≡ runOutcome (example 1) → ⊥
+  pub invented : inventsCount (example 16) ≡ runOutcome (example 16) → ⊥
+  pub unlanded : ignoresLanding (comparing (0 ∷ [])) ≡ runOutcome (comparing (0 ∷ [])) → ⊥
