@@ -1,13 +1,14 @@
 /* The preview sandbox for C and C++: three calls that load, check and run an effect. They hold to document 01.
  *
  * Slices. A slice is a pointer and a length in bytes. The pointer stands for that many bytes, readable, and writable for state, memory and
- * room. No two slices of one call overlap. Alignment is free. A pointer may be null where its length is 0: the example host's self-test
- * tries that with every slice, but no proof covers it.
+ * room. No two slices of one call overlap. Alignment is free. A pointer may be null where its length is 0. The proofs begin at the slices:
+ * alignment and null pointers are tried by the example host's self-test, with every slice, and no proof covers them.
  *
  * Words. Numbers inside slices are 4 bytes, highest byte first. A place is a syllable's index: byte offset 4 * place of the program.
  *
- * Nothing is kept between calls: what an effect is doing stands in the state image and the memory, both the host's own. Calls on
- * different slices may be made by several threads at once. No call asks anything more of its caller: every other input is answered.
+ * Nothing is kept between calls: what an effect is doing stands in the state image and the memory, both the host's own. The library has no
+ * data of its own that it writes, so threads that share no slice they write may call at once. No call asks anything more of its caller:
+ * every other input is answered.
  */
 #ifndef VEX_H
 #define VEX_H
@@ -20,7 +21,7 @@ extern "C" {
 #endif
 
 /* The delay table. Byte 0: the cluster count C. Then 5 bytes for each cluster: width (syllables an instruction), and how many ALU, MUL, MEM
- * and COPY operations an instruction may have there. Then 5 delays: ALU, CMPB, MUL, LOAD, COPY. */
+ * and COPY operations an instruction may have there; a copy counts in both of its clusters. Then 5 delays: ALU, CMPB, MUL, LOAD, COPY. */
 #define VEX_TABLE_BYTES(clusters) (6 + 5 * (clusters))
 #define VEX_CLUSTERS_MAX 4 /* from 1 */
 #define VEX_WIDTH_MAX 8    /* from 1 */
@@ -54,7 +55,8 @@ extern "C" {
 #define VEX_REGISTER_LANDING 9
 #define VEX_BUSY_MAX 7
 
-/* The numbers. Each is tested over the whole input before the next, and the lowest place is named. In brackets: what the place is. */
+/* The numbers. 1 to 10 are each tested over the whole input before the next, and the lowest place is named; 11 to 14 are met as the effect
+ * runs, in one instruction 11 first, then 12 and 13 syllable by syllable, then 14. In brackets: what the place is. */
 enum {
     VEX_GOOD = 0,            /* load, check: nothing is wrong [0] */
     VEX_PAUSED = 0,          /* run: n instructions are done [the one to come] */
@@ -66,12 +68,14 @@ enum {
                                 outside cluster 0; a copy is from its own cluster or from one the table has not [the syllable] */
     VEX_TOO_WIDE = 6,        /* a cluster has more syllables than its width or more of a class than its count; or there are two control
                                 syllables [the instruction's first syllable] */
-    VEX_TWO_WRITES = 7,      /* an instruction names one register twice as destination [its first syllable] */
+    VEX_TWO_WRITES = 7,      /* an instruction names one register, not register 0, twice as destination [its first syllable] */
     VEX_BAD_CONTROL = 8,     /* a target is no instruction's first syllable; a stop has company [the control syllable]; the last
                                 instruction has neither goto nor stop [its first syllable] */
     VEX_TOO_SOON = 9,        /* check only: a register is read or written while a result for it may be in flight [first syllables: the
                                 producer's in the count's field, the consumer's in the place's] */
-    VEX_BAD_STATE = 10,      /* run: the state image is not valid [0] */
+    VEX_BAD_STATE = 10,      /* run: the state image is not valid [0]. It is valid if its place is an instruction's first syllable, general
+                                register 0 of each cluster is all zero, landing <= busy <= 7, waiting is 0 where landing is 0, and branch
+                                registers hold, and wait for, 0 or 1. What run leaves is always valid */
     VEX_IN_FLIGHT = 11,      /* run: a register that is busy is read or is a destination [11 to 14: the instruction's first syllable] */
     VEX_MISALIGNED = 12,     /* run: an address is no multiple of the access size */
     VEX_OUT_OF_BOUNDS = 13,  /* run: an access ends beyond the memory */
@@ -79,7 +83,7 @@ enum {
     VEX_STOPPED = 255        /* run: the effect is at a stop [the stop] */
 };
 
-/* Loads: says whether the program is one under this table. Gives 0 to 8, and tests the lengths of program and room only.
+/* Loads: says whether the program is one under this table. Gives 0 to 8; under 2 it tests program and room.
  *   table, program   read
  *   room             written with number, count 0 and place; a good load gives 0, 0, 0
  * Returns the number, also where the room cannot be written. */
@@ -93,16 +97,16 @@ uint32_t vex_check(const uint8_t *table, size_t table_len, const uint8_t *progra
  *   table, program   read
  *   state            the image; written with where the effect stands
  *   memory           written by the effect's stores
- *   landing          read: the i-th result of this call, by instruction and syllable, those to register 0 not counted, lands
- *                    1 + (byte i modulo its delay) instructions on; past the end of the list it takes its whole delay. Any length is
- *                    good, and 0 is the usual one
+ *   landing          read: the i-th result of this call, by instruction and syllable (addcg: sum, then carry), those to register 0
+ *                    not counted, has landed when 1 + (byte i modulo its delay) instructions are done, its own the first of them; past
+ *                    the end of the list it takes its whole delay. Any length is good, and 0 is the usual one
  *   n                how many instructions at most; a stop, though not counted, is met only before n is used up; with n = 0 everything
  *                    is tested and nothing changes
  *   room             written with number, how many instructions were executed in this call, and place
  * Returns the number, also where the room cannot be written. State and memory after the call:
  *   0                n instructions are done; call again to go on
  *   255              all before the stop are done and everything has landed; the stop is not counted, and the place stays at it
- *   11 to 14         all before the faulting instruction are done, nothing of it is; a further call faults at the same place
+ *   11 to 14         all before the faulting instruction are done, nothing of it is; a further call with n above 0 faults at the same place
  *   1 to 8, 10       state and memory are as they were, and the count is 0 */
 uint32_t vex_run(const uint8_t *table, size_t table_len, const uint8_t *program, size_t program_len, uint8_t *state, size_t state_len,
                  uint8_t *memory, size_t memory_len, const uint8_t *landing, size_t landing_len, uint32_t n, uint8_t *room, size_t room_len);

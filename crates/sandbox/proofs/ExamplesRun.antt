@@ -17,7 +17,7 @@ use Rattle.machine.specs.Instruction.{acts}
 use Rattle.machine.specs.Image.{offset, registersIn, imageOf}
 use Rattle.machine.specs.Valid.{stateBreaks}
 use Rattle.machine.specs.Run.{Call, Outcome, doneOf, runOutcome}
-use Rattle.sandbox.specs.WrongRun.{example, comparing, finishesFirst, inventsCount, ignoresLanding, WrongRun}
+use Rattle.sandbox.specs.WrongRun.{example, adding, comparing, finishesFirst, inventsCount, ignoresLanding, WrongRun}
 
 -- number and count that a call leaves, and the value of a register
 result : Outcome → ℕ
@@ -34,9 +34,9 @@ whole : (result (runOutcome (example 16)) ≡ 255) × (counted (runOutcome (exam
 unfolding result counted held roomWith value acts registersIn imageOf stateBreaks doneOf loadedWith testedBy unendedAt strayAt misplacedAt crowdedAt twiceAt astrayAt tableBreaks tableOf stray formatOf decode
 whole = (refl, refl, refl)
 
--- one instruction of it
-first : (result (runOutcome (example 1)) ≡ 0) × (result (finishesFirst (example 1)) ≡ 255)
-unfolding result value acts registersIn imageOf stateBreaks doneOf loadedWith testedBy unendedAt strayAt misplacedAt crowdedAt twiceAt astrayAt tableBreaks tableOf stray formatOf decode
+-- after the first of two instructions the second has not been
+first : (held 4 (runOutcome adding) ≡ 0) × (held 4 (finishesFirst adding) ≡ 6)
+unfolding held value acts registersIn imageOf stateBreaks doneOf loadedWith testedBy unendedAt strayAt misplacedAt crowdedAt twiceAt astrayAt tableBreaks tableOf stray formatOf decode
 first = (refl, refl)
 
 invented : counted (inventsCount (example 16)) ≡ 16
@@ -55,7 +55,7 @@ wrong-run =
       refusing = λ e. let h : _≡_ {A = ℕ} 1 255 = ap result e ∙ whole .0 in omega arith;
       nothing = λ e. let h : _≡_ {A = ℕ} 0 255 = ap result e ∙ whole .0 in omega arith;
       fixed = λ e. let h : _≡_ {A = ℕ} 0 5 = ap (held 3) e ∙ whole .2 in omega arith;
-      atOnce = λ e. let h : _≡_ {A = ℕ} 255 0 = sym (first .1) ∙ ap result e ∙ first .0 in omega arith;
+      atOnce = λ e. let h : _≡_ {A = ℕ} 6 0 = sym (first .1) ∙ ap (held 4) e ∙ first .0 in omega arith;
       invented = λ e. let h : _≡_ {A = ℕ} 16 1 = sym invented ∙ ap counted e ∙ whole .1 in omega arith;
       unlanded = λ e. let h : _≡_ {A = ℕ} 0 1 = sym (compared .1) ∙ ap (held 256) e ∙ compared .0 in omega arith;
     }

@@ -24,6 +24,10 @@ calling program landing n =
 abbrev pub example : ℕ → Call
 example n = calling program [] n
 
+-- add 3 = 0, 5; add 4 = 0, 6; stop
+abbrev pub adding : Call
+adding = calling (0xC1 ∷ 0x0C ∷ 0x08 ∷ 0x05 ∷ 0xC1 ∷ 0x10 ∷ 0x08 ∷ 0x06 ∷ 0xC0 ∷ 0x04 ∷ 0x00 ∷ 0x00 ∷ []) [] 1
+
 -- cmpeq to branch register 0 of registers 0 and 0, with CMPB 2; stop
 abbrev pub comparing : List ℕ → Call
 comparing landing = calling (0xE8 ∷ 0x00 ∷ 0x00 ∷ 0x00 ∷ 0xC0 ∷ 0x04 ∷ 0x00 ∷ 0x00 ∷ []) landing 1
@@ -63,9 +67,12 @@ doesNothing c =
 abbrev pub oneState : Call → Outcome
 oneState c = let o = runOutcome c in record { result = o .result; state = zeros; memory = o .memory; room = o .room }
 
--- all of the effect in the first instruction, and then nothing more
+-- all of the effect in the first instruction, idle after, with the right answer at each
 abbrev pub finishesFirst : Call → Outcome
-finishesFirst c = pick (eqb (c .n) 0) (runOutcome c) (runOutcome (withLimit 4294967295 c))
+finishesFirst c =
+    let o = runOutcome c in
+    let last = runOutcome (withLimit 4294967295 c) in
+    pick (eqb (c .n) 0) o (record { result = o .result; state = last .state; memory = last .memory; room = o .room })
 
 -- as many instructions executed as were asked for
 abbrev pub inventsCount : Call → Outcome
@@ -85,6 +92,6 @@ pub record WrongRun : Type 0 where
   pub refusing : refusesAllRuns (example 16) ≡ runOutcome (example 16) → ⊥
   pub nothing : doesNothing (example 16) ≡ runOutcome (example 16) → ⊥
   pub fixed : oneState (example 16) ≡ runOutcome (example 16) → ⊥
-  pub atOnce : finishesFirst (example 1) ≡ runOutcome (example 1) → ⊥
+  pub atOnce : finishesFirst adding ≡ runOutcome adding → ⊥
   pub invented : inventsCount (example 16) ≡ runOutcome (example 16) → ⊥
   pub unlanded : ignoresLanding (comparing (0 ∷ [])) ≡ runOutcome (comparing (0 ∷ [])) → ⊥
