@@ -1,5 +1,5 @@
 -- Laws of an operation's results, as scratch holds them.
-use mathlib.Core.Path.{_≡_, refl, sym, ap, _∙_}
+use mathlib.Core.Path.{_≡_, refl, sym, _∙_}
 use mathlib.Core.Bool.{Bool, true, false}
 use mathlib.Core.List.{List, [], _∷_, _++_, map, append-nil, append-assoc}
 use Prim.Native.Nat.{ℕ, _+_}
@@ -11,9 +11,8 @@ use Rattle.ops.specs.Value.{carry}
 use Rattle.isa.specs.Touch.{dests}
 use Rattle.isa.specs.declared.Op.{Op}
 use Rattle.isa.specs.declared.Delays.{Delays}
-use Rattle.vliw.specs.Machine.{Dest}
 use Rattle.machine.specs.Instruction.{Fired, valueIn}
-use Rattle.ticks.specs.Ticks.{destsIn, valuesIn, Results}
+use Rattle.ticks.specs.Ticks.{Results}
 use Rattle.gather.specs.Gather.{destIn, valuesBy, Grown}
 
 -- ---- the results of one operation

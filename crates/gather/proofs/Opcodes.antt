@@ -11,8 +11,6 @@ use Rattle.word.specs.Choice.{pick}
 use Rattle.word.proofs.Choice.{is-false, never-both, or-true, or-false, and-true}
 use Rattle.isa.specs.Syllable.{opcode, formatOf}
 use Rattle.isa.specs.Decode.{decodeAs, decode}
-use Rattle.isa.specs.Touch.{along, wayOf}
-use Rattle.isa.specs.declared.Op.{Op}
 use Rattle.isa.specs.declared.Format.{Format}
 use Rattle.isa.specs.declared.Format.the-variants.{Still, Two, One, Carry, Test, Select, Load, Store, Copy, Goto, Fork}
 use Rattle.isa.proofs.Formats.{Among, format-among}

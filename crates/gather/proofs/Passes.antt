@@ -3,7 +3,7 @@ use mathlib.Core.Path.{_≡_, refl, sym, _∙_, subst}
 use mathlib.Core.Logic.{⊎-elim}
 use mathlib.Core.Bool.{Bool, true, false, _||_}
 use mathlib.Core.List.{List, [], _∷_, _++_, map, map-append}
-use Prim.Native.Nat.{ℕ, zero, suc, _+_, _*_, _-_, _≤_, _<_}
+use Prim.Native.Nat.{ℕ, zero, suc, _+_, _-_, _≤_, _<_}
 use native.Mathlib.Nat.{zero-add}
 use native.Mathlib.Numerals.{add-one}
 use native.Mathlib.Omega.{arith}
@@ -23,9 +23,9 @@ use Rattle.isa.specs.Touch.{dests}
 use Rattle.isa.specs.declared.Op.{Op}
 use Rattle.isa.specs.declared.Delays.{Delays}
 use Rattle.isa.proofs.Instructions.{spots-length, spot-syllable, start-zero, start-next, opened-first, opened-next}
-use Rattle.machine.specs.Instruction.{Fired, fire, values, storesOf, faultOf, Next}
+use Rattle.machine.specs.Instruction.{Fired, fire, values}
 use Rattle.ticks.specs.Ticks.{Sizes, views, Results}
-use Rattle.gather.specs.Gather.{opBusy, nextFrom, Own, Formed, opLate, fireAt, Scratch, Acts, fired, Kept}
+use Rattle.gather.specs.Gather.{opBusy, Own, Formed, opLate, fireAt, Scratch, Acts, Kept}
 use Rattle.memory.specs.Held.{storesIn, Stores}
 use Rattle.gather.specs.declared.Seen.{Seen}
 use Rattle.machine.proofs.Phases.{dests-append, values-append, storesOf-append, faultOf-append}

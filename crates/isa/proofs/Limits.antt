@@ -12,6 +12,7 @@ use borrow.Author.Tests.{ltb-true, ltb-false}
 use Rattle.word.specs.Choice.{pick}
 use Rattle.word.specs.Lists.{anyBelow}
 use Rattle.isa.specs.Table.{clustersOf, unit, delay, outside, clusterBreaks, column, tableBreaks, tableOf}
+use Rattle.isa.specs.Limits.{Between, Limits}
 use Rattle.isa.specs.Touch.{delayOf}
 use Rattle.isa.specs.declared.Table.{Table}
 use Rattle.isa.proofs.Steps.{either-way}
@@ -29,19 +30,6 @@ none-below f zero e = below-none (λ (i : ℕ). f i ≡ false)
 none-below f (suc n) e =
     let p = neither (f n) (anyBelow f n) e in
     rw (← add-one n) (below-more (λ (i : ℕ). f i ≡ false) n (none-below f n (p .1)) (p .0))
-
--- the limits of a table as it is read
-abbrev pub Between : ℕ → ℕ → ℕ → Type 0
-Between least most x = (least ≤ x) × (x ≤ most)
-
-pub record Limits (t : Table) : Type 0 where
-  pub clusters : Between 1 4 (t .clusters)
-  pub alu : Between 1 8 (t .delays .alu)
-  pub cmpb : Between 1 8 (t .delays .cmpb)
-  pub mul : Between 1 8 (t .delays .mul)
-  pub load : Between 1 8 (t .delays .load)
-  pub copy : Between 1 8 (t .delays .copy)
-  pub width : (k : ℕ) → getD (t .width) k 0 ≤ 8
 
 inside : (bytes : List ℕ) (least most x : ℕ) → outside bytes least most x ≡ false → Between least most x
 inside bytes least most x e =

@@ -4,3 +4,4 @@ pub mod Table
 pub mod Decode
 pub mod Program
 pub mod Touch
+pub mod Limits

@@ -1,5 +1,5 @@
--- Instructions: where they start, which syllables they have, and the cluster of each. Everything after decoding sees a program only
--- through `operations at a place`, `the following place` and `is a start`.
+-- Instructions: where they start, which syllables they have, and the cluster of each. The machine's definitions see a program only
+-- through `operationsAt`, `following` and `isStart`.
 use mathlib.Core.Bool.{Bool, true, false}
 use mathlib.Core.List.{List, [], _∷_, map}
 use Prim.Native.Nat.{ℕ, _+_, _-_}

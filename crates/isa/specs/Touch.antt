@@ -45,6 +45,7 @@ pub data Way : Type 0 where
   to : ℕ → Way
   fork : ℕ → ℕ → Way
 
+-- br is 62 and taken on 1, brf is 63 and taken on 0
 abbrev pub wayOf : Op → Way
 wayOf o =
     pick (eqb (o .opcode) 0) (pick (eqb (o .number) 1) nowhere along)

@@ -3,7 +3,6 @@ use mathlib.Core.Path.{_≡_, refl}
 use mathlib.Core.Bool.{Bool, true, false}
 use mathlib.Core.List.{List}
 use Prim.Native.Nat.{ℕ}
-use lib.ListN.{length}
 use Rattle.word.specs.Bytes.{words}
 use Rattle.word.specs.Lowest.{NoneBelow, lowest}
 use Rattle.word.specs.declared.Found.{Found}
@@ -12,8 +11,8 @@ use Rattle.word.proofs.Lowest.{lowest-is}
 use Rattle.isa.specs.Table.{tableBreaks, tableOf}
 use Rattle.isa.specs.declared.Place.{Place}
 use Rattle.isa.specs.declared.Table.{Table}
-use Rattle.loader.specs.Broken.{unendedAt, strayAt, misplacedAt, crowdedAt, twiceAt, astrayAt}
 use Rattle.loader.specs.Load.{_otherwise_, refusedIf, refusedAt, testedBy, loadedWith}
+use Rattle.loader.specs.Passed.{Passed}
 use Rattle.loader.specs.declared.Refusal.{Refusal}
 use Rattle.loader.specs.declared.Loaded.{Loaded}
 use Rattle.loader.specs.declared.Loaded.the-variants.{Good, Refused}
@@ -33,15 +32,6 @@ refusedAt-good r Nothing e = refl
 -- no place breaks a test whose search found none
 pub test-good : (r : Place → Refusal) (f : ℕ → Bool) (n : ℕ) → refusedAt r (lowest f n) ≡ Good → NoneBelow f n
 test-good r f n e = rw (refusedAt-good r (lowest f n) e) at (lowest-is f n)
-
--- what a program has passed under 3 to 8
-pub record Passed (table : Table) (program : List ℕ) : Type 0 where
-  pub unended : NoneBelow (unendedAt program) (length program)
-  pub stray : NoneBelow (strayAt program) (length program)
-  pub misplaced : NoneBelow (misplacedAt (table .clusters) program) (length program)
-  pub crowded : NoneBelow (crowdedAt table program) (length program)
-  pub twice : NoneBelow (twiceAt program) (length program)
-  pub astray : NoneBelow (astrayAt program) (length program)
 
 pub passed : (table : Table) (program : List ℕ) → testedBy table program ≡ Good → Passed table program
 unfolding testedBy

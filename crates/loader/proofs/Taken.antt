@@ -18,7 +18,7 @@ use Rattle.isa.specs.Touch.{destinations, nexts}
 use Rattle.isa.specs.declared.Table.{Table}
 use Rattle.isa.proofs.Instructions.{spot-syllable, start-inside, start-zero, opened-first, opened-next, following-ends, following-within, following-here, next-start, between, instruction-at}
 use Rattle.loader.specs.Broken.{unendedAt, misplacedAt, overfull, crowdedAt, twiceAt, jumps, target, leaves, astrayAt}
-use Rattle.loader.proofs.Refusals.{Passed}
+use Rattle.loader.specs.Passed.{Passed}
 use Rattle.loader.proofs.Counts.{length-classes}
 use Rattle.loader.proofs.Ways.{controls, Next, aimed, follows, next-is}
 

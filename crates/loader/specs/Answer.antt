@@ -32,11 +32,11 @@ abbrev pub loadAnswer : Loaded → Answer
 loadAnswer Good = answer 0 0 0
 loadAnswer (Refused r) = refusalAnswer r
 
--- "The answer room gets number, count, place, 4 bytes each. A room not of 12 bytes is never written, under any number."
+-- "The answer room gets number, count, place, 4 bytes each"; "A room not of 12 bytes is never written, under any number."
 unfoldable pub roomWith : Answer → List ℕ → List ℕ
 roomWith a room = pick (eqb (length room) 12) (bytes 4 (a .number) ++ (bytes 4 (a .count) ++ bytes 4 (a .place))) room
 
--- all that a call of load leaves
+-- all that a call of load or of check leaves
 pub record Outcome : Type 0 where
   pub result : ℕ
   pub room : List ℕ

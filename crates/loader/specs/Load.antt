@@ -1,5 +1,5 @@
 -- Loading: "Each number is tested over the whole input before the next, in this order, lowest place first."
-use mathlib.Core.Bool.{Bool, true, false}
+use mathlib.Core.Bool.{Bool}
 use mathlib.Core.List.{List}
 use Prim.Native.Nat.{ℕ}
 use lib.ListN.{length}

@@ -22,8 +22,9 @@ use Rattle.isa.specs.declared.Op.{Op}
 use Rattle.isa.specs.declared.Delays.{Delays}
 use Rattle.isa.specs.declared.Table.{Table}
 use Rattle.isa.proofs.Steps.{either-way}
-use Rattle.isa.proofs.Limits.{Limits, delay-limits}
-use Rattle.loader.proofs.Refusals.{Passed}
+use Rattle.isa.specs.Limits.{Limits}
+use Rattle.isa.proofs.Limits.{delay-limits}
+use Rattle.loader.specs.Passed.{Passed}
 use Rattle.loader.proofs.Taken.{onward, distinct}
 use Rattle.memory.specs.Memory.{Store, store, share, anyShare}
 use Rattle.machine.specs.Instruction.{Fired, fire, values, storesOf, Next, stops, nextBy, nextOf, faulted, outBy, acts, instructionOf}

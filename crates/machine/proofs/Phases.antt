@@ -1,26 +1,23 @@
 -- Laws of the phases over an instruction's operations, for going operation by operation.
 use mathlib.Core.Path.{_≡_, refl, sym, _∙_, ap}
 use mathlib.Core.Logic.{_⊎_, inl, inr, ⊎-elim}
-use mathlib.Core.Bool.{Bool, true, false, not, _||_, _&&_, or-assoc, or-true}
-use mathlib.Core.List.{List, [], _∷_, _++_, map, map-append, map-map, List·Memᴰ, List·Memᴰ·cases-cons}
+use mathlib.Core.Bool.{Bool, true, false, not, _||_, _&&_}
+use mathlib.Core.List.{List, [], _∷_, _++_, map, map-append, List·Memᴰ, List·Memᴰ·cases-cons}
 use Prim.Native.Nat.{ℕ, zero, suc, _+_, _*_, _%_, _≤_}
 use native.Mathlib.Omega.{arith}
 use lib.Dec.{eqb, ltb, leb, eqb·suc-zero}
 use lib.ListN.{length, length-map}
-use borrow.Author.Tests.{eqb-true, leb-true, ltb-false, le-leb}
+use borrow.Author.Tests.{leb-true, ltb-false, le-leb}
 use Rattle.word.specs.Choice.{pick}
-use Rattle.word.specs.Lists.{any}
 use Rattle.word.proofs.Choice.{by-test, and-true}
-use Rattle.word.proofs.Lists.{any-append}
 use Rattle.ops.specs.Value.{stored}
-use Rattle.vliw.specs.Cell.{Registers, at}
-use Rattle.vliw.specs.Machine.{Dest, anyBusy}
-use Rattle.isa.specs.Touch.{Result, resultIn, reads, results, destinations, dests}
+use Rattle.vliw.specs.Cell.{at}
+use Rattle.isa.specs.Touch.{Result, resultIn, results, dests}
 use Rattle.isa.specs.declared.Op.{Op}
 use Rattle.isa.specs.declared.Delays.{Delays}
 use Rattle.isa.proofs.Steps.{either-way}
 use Rattle.memory.specs.Memory.{sizeOf, Access, to, refused, access, Store, faultBy}
-use Rattle.machine.specs.Instruction.{Fired, fire, isStore, addressOf, values, storesOf, faultOf, Next, nextOf}
+use Rattle.machine.specs.Instruction.{Fired, fire, isStore, addressOf, values, storesOf, faultOf}
 
 -- ---- some operations, then others
 

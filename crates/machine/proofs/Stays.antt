@@ -18,9 +18,10 @@ use Rattle.isa.specs.Program.{nowhere, spotAt, isStart, following, operation, o
 use Rattle.isa.specs.declared.Op.{Op}
 use Rattle.isa.specs.declared.Table.{Table}
 use Rattle.isa.proofs.Steps.{either-way}
-use Rattle.isa.proofs.Limits.{Limits, delay-limits}
+use Rattle.isa.specs.Limits.{Limits}
+use Rattle.isa.proofs.Limits.{delay-limits}
 use Rattle.isa.proofs.Instructions.{start-inside, following-within, instruction-length, instruction-at}
-use Rattle.loader.proofs.Refusals.{Passed}
+use Rattle.loader.specs.Passed.{Passed}
 use Rattle.loader.proofs.Taken.{in-cluster}
 use Rattle.memory.specs.Memory.{Store, store, anyShare}
 use Rattle.machine.specs.Instruction.{Fired, fire, values, storesOf, faultOf, Next, stops, nextOf, outBy, acts, instructionOf}

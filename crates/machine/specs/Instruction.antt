@@ -1,7 +1,7 @@
 -- Document 01, "One instruction", of VEX: what an instruction does with the registers' values and the memory.
-use mathlib.Core.Bool.{Bool, true, false, _&&_}
+use mathlib.Core.Bool.{Bool, _&&_}
 use mathlib.Core.List.{List, [], _∷_, map}
-use Prim.Native.Nat.{ℕ, _+_}
+use Prim.Native.Nat.{ℕ}
 use lib.Dec.{eqb, leb}
 use lib.ListN.{getD, length}
 use Rattle.word.specs.Choice.{pick}
@@ -14,13 +14,14 @@ use Rattle.isa.specs.declared.Op.{Op}
 use Rattle.isa.specs.declared.Delays.{Delays}
 use Rattle.memory.specs.Memory.{sizeOf, access, faultBy, Store, anyShare}
 
--- an operation with the values of what it reads: s1, s2 or the number, and b or the stored register
+-- an operation with the values of what it reads: s1, s2 or the number, and s3: b, the stored register or a branch's condition
 pub record Fired : Type 0 where
   pub op : Op
   pub x : ℕ
   pub y : ℕ
   pub z : ℕ
 
+-- where s2 is register 0 the number stands in: it is 0 unless s2 is an immediate
 abbrev pub fire : List ℕ → Op → Fired
 fire f o =
     record {

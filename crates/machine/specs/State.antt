@@ -1,4 +1,4 @@
--- The state as the code holds it: arrays of values, waiting values, busy and landing counts, general and branch.
+-- Private to the code, nobody has to believe it: the state as the code holds it, arrays of values, waiting values, busy and landing counts, general and branch.
 use mathlib.Core.Path.{_≡_}
 use mathlib.Core.List.{List, [], _∷_, _++_}
 use Prim.Native.Nat.{ℕ}

@@ -1,5 +1,5 @@
 -- "A state is valid if its place starts an instruction; register 0 is all zero; landing <= busy <= 7; waiting is 0 where landing is 0;
--- branch values, waiting ones too, are 0 or 1. This covers the 256 general and 32 branch registers for every C."
+-- branch values, waiting ones too, are 0 or 1." "This covers the 256 general and 32 branch registers for every C."
 use mathlib.Core.Bool.{Bool, not, _||_, _&&_}
 use mathlib.Core.List.{List}
 use Prim.Native.Nat.{ℕ, _%_}

@@ -5,7 +5,7 @@ use Prim.Native.Nat.{ℕ, _+_, _%_}
 use lib.Dec.{eqb, ltb}
 use Rattle.word.specs.Choice.{pick}
 use Rattle.word.specs.Lists.{any}
-use Rattle.word.specs.Bytes.{numberAt, putNumber}
+use Rattle.word.specs.Bytes.{putNumber}
 
 -- the access size: ldw and stw 4 bytes, ldh, ldhu and sth 2, ldb, ldbu and stb 1
 abbrev pub sizeOf : ℕ → ℕ

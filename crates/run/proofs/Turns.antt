@@ -25,9 +25,10 @@ use Rattle.isa.specs.declared.Op.{Op}
 use Rattle.isa.specs.declared.Delays.{Delays}
 use Rattle.isa.specs.declared.Place.{Place}
 use Rattle.isa.specs.declared.Table.{Table}
-use Rattle.isa.proofs.Limits.{Limits, delay-limits}
+use Rattle.isa.specs.Limits.{Limits}
+use Rattle.isa.proofs.Limits.{delay-limits}
 use Rattle.isa.proofs.Instructions.{spots-length, start-inside, following-within, following-inside, instruction-length, instruction-syllables, instruction-at}
-use Rattle.loader.proofs.Refusals.{Passed}
+use Rattle.loader.specs.Passed.{Passed}
 use Rattle.loader.proofs.Taken.{in-cluster, short}
 use Rattle.loader.proofs.Walks.{part-instruction}
 use Rattle.memory.specs.Memory.{Store, store, anyShare}

@@ -3,7 +3,6 @@ use mathlib.Core.Path.{_≡_, refl, sym, ap, _∙_}
 use mathlib.Core.List.{[], _∷_}
 use Prim.Native.Nat.{ℕ}
 use native.Mathlib.Omega.{arith}
-use lib.ListN.{getD}
 use Rattle.word.specs.Bytes.{wordAt}
 use Rattle.ops.specs.Value.{value}
 use Rattle.isa.specs.Syllable.{formatOf}
@@ -16,7 +15,7 @@ use Rattle.loader.specs.Answer.{roomWith}
 use Rattle.machine.specs.Instruction.{acts}
 use Rattle.machine.specs.Image.{offset, registersIn, imageOf}
 use Rattle.machine.specs.Valid.{stateBreaks}
-use Rattle.machine.specs.Run.{Call, Outcome, doneOf, runOutcome}
+use Rattle.machine.specs.Run.{Outcome, doneOf, runOutcome}
 use Rattle.sandbox.specs.WrongRun.{example, adding, comparing, finishesFirst, inventsCount, ignoresLanding, WrongRun}
 
 -- number and count that a call leaves, and the value of a register

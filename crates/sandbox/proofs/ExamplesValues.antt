@@ -1,6 +1,5 @@
 -- Document 01's checked values, by computing. Only the files of examples open an operation's text.
 use mathlib.Core.Path.{_≡_, refl}
-use Rattle.word.specs.Bytes.{wordAt}
 use Rattle.ops.specs.Value.{value, carry}
 use Rattle.isa.specs.Syllable.{formatOf}
 use Rattle.isa.specs.Zero.{stray}
@@ -9,7 +8,7 @@ use Rattle.isa.specs.Table.{tableBreaks, tableOf}
 use Rattle.loader.specs.Broken.{unendedAt, strayAt, misplacedAt, crowdedAt, twiceAt, astrayAt}
 use Rattle.loader.specs.Load.{testedBy, loadedWith}
 use Rattle.machine.specs.Instruction.{acts}
-use Rattle.machine.specs.Image.{offset, registersIn, imageOf}
+use Rattle.machine.specs.Image.{registersIn, imageOf}
 use Rattle.machine.specs.Valid.{stateBreaks}
 use Rattle.machine.specs.Run.{doneOf}
 use Rattle.sandbox.specs.Checked.{leftIn, Checked}

@@ -1,8 +1,7 @@
 -- Document 01, "Checked values", all of it as a single table: the operations, the swap and the schedule row.
 use mathlib.Core.Path.{_≡_}
-use mathlib.Core.List.{List, [], _∷_}
+use mathlib.Core.List.{[], _∷_}
 use Prim.Native.Nat.{ℕ}
-use lib.ListN.{replicate}
 use lib.Seq.{sets}
 use Rattle.word.specs.Bytes.{bytes, wordAt}
 use Rattle.ops.specs.Value.{value, carry}

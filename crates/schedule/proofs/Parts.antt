@@ -14,9 +14,9 @@ use Rattle.word.proofs.Lists.{count-snoc}
 use Rattle.isa.specs.Syllable.{opens}
 use Rattle.isa.specs.Program.{Spot, nowhere, spots, spotAt, isStart, following, operation}
 use Rattle.isa.specs.declared.Table.{Table}
-use Rattle.isa.proofs.Limits.{Limits}
+use Rattle.isa.specs.Limits.{Limits}
 use Rattle.isa.proofs.Instructions.{spots-length, start-inside, start-zero, opened-first, opened-next, following-within, between, instruction-syllables, instruction-at}
-use Rattle.loader.proofs.Refusals.{Passed}
+use Rattle.loader.specs.Passed.{Passed}
 use Rattle.loader.proofs.Taken.{in-cluster, short, onward}
 use Rattle.schedule.specs.Part.{Laid, operations, Part}
 

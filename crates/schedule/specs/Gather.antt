@@ -1,4 +1,4 @@
--- The results of a producer as the search keeps them, in two arrays with the longest delay; and the registers that an operation names.
+-- Private to the search, nobody has to believe it: the results of a producer as the search keeps them, in two arrays with the longest delay; and the registers that an operation names.
 use mathlib.Core.Path.{_≡_}
 use mathlib.Core.Bool.{Bool, _||_}
 use mathlib.Core.List.{List, [], _∷_, List·Memᴰ}

@@ -1,4 +1,4 @@
--- What a producer reaches as the search keeps it, in two arrays: places in ascending order, each with a number of nexts that leads there.
+-- Private to the search, nobody has to believe it: what a producer reaches as the search keeps it, in two arrays: places in ascending order, each with a number of nexts that leads there.
 use mathlib.Core.Path.{_≡_}
 use mathlib.Core.Logic.{_⊎_}
 use mathlib.Core.List.{List, [], _∷_, List·Memᴰ}

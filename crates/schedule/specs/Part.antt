@@ -1,4 +1,4 @@
--- What the search relies on: in a program that loads, and in the syllables of one of its instructions.
+-- Private to the search, nobody has to believe it: what the search relies on: in a program that loads, and in the syllables of one of its instructions.
 use mathlib.Core.Path.{_≡_}
 use mathlib.Core.Bool.{true}
 use mathlib.Core.List.{List, map, List·Memᴰ}

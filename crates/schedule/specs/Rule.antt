@@ -1,5 +1,4 @@
 -- Document 01, "Schedule rule", of a program: its syllables under a table's delays.
-use mathlib.Core.Path.{_≡_}
 use mathlib.Core.List.{List, _++_, map}
 use Prim.Native.Nat.{ℕ, _≤_}
 use Rattle.vliw.specs.Machine.{Dest}
@@ -7,7 +6,6 @@ use Rattle.vliw.specs.Schedule.{TooSoon}
 use Rattle.isa.specs.Program.{isStart, operationsAt, following}
 use Rattle.isa.specs.Touch.{reads, dests, nexts}
 use Rattle.isa.specs.declared.Delays.{Delays}
-use Rattle.isa.specs.declared.Place.{Place}
 use Rattle.schedule.specs.declared.Verdict.{Verdict}
 use Rattle.schedule.specs.declared.Verdict.the-variants.{Clean, Clash}
 

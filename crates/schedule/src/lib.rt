@@ -1,7 +1,7 @@
 // The schedule check: a schedule is refused exactly if some path touches a result too soon.
 ghost use Rattle.word.specs.Bytes.{words};
-ghost use Rattle.isa.proofs.Limits.{Limits};
-ghost use Rattle.loader.proofs.Refusals.{Passed};
+ghost use Rattle.isa.specs.Limits.{Limits};
+ghost use Rattle.loader.specs.Passed.{Passed};
 ghost use Rattle.schedule.specs.Rule.{Says};
 use isa::Place;
 use isa::Table;

@@ -42,7 +42,7 @@ pub record Quiet {Memory Store : Type 0} (starts : ℕ → Bool) (s : State Memo
   pub quiet : (r : ℕ) → at (s .registers) r .busy ≡ 0
   pub orders : AnyOrder (s .orders)
 
--- For every choice of landings (s .landing) and of orders (s .orders) the run is the plain machine's, and no run stops for a schedule fault.
+-- For every choice of landings (s .landing) and of orders (s .orders) the run is the plain machine's, and no run ends with 11.
 pub record Unseen {Memory Store : Type 0} (store : Store → Memory → Memory) (program : ℕ → Instruction Memory Store) (s : State Memory Store) (n : ℕ) : Type 0 where
   pub same : viewRan settled (run (step store program) n s) ≡ run (stepPlain store program) n (settled s)
   pub unfaulted : run (step store program) n s .number ≢ 11

@@ -5,10 +5,12 @@ use Prim.Native.Nat.{ℕ}
 use Rattle.word.specs.Bytes.{words}
 use Rattle.isa.specs.Table.{tableOf}
 use Rattle.isa.specs.declared.Table.{Table}
-use Rattle.isa.proofs.Limits.{Limits, limits}
+use Rattle.isa.specs.Limits.{Limits}
+use Rattle.isa.proofs.Limits.{limits}
 use Rattle.loader.specs.Load.{loadedOf}
 use Rattle.loader.specs.declared.Loaded.the-variants.{Good}
-use Rattle.loader.proofs.Refusals.{Passed, passed, accepted}
+use Rattle.loader.specs.Passed.{Passed}
+use Rattle.loader.proofs.Refusals.{passed, accepted}
 use Rattle.sandbox.proofs.checked.Statement.{statement}
 use Rattle.sandbox.proofs.checked.Tie as tie
 

@@ -3,11 +3,10 @@ use borrow.Author.Tests.{eq-eqb, ne-eqb}
 use mathlib.Core.Path.{_≡_, refl, sym, _∙_, ap}
 use mathlib.Core.List.{List, _++_}
 use Prim.Native.Nat.{ℕ, _+_, _%_, _^_}
-use native.Mathlib.Omega.{arith}
 use lib.ListN.{length}
 use lib.Seq.{sets}
 use Rattle.word.specs.Bytes.{bytes, putWord}
-use Rattle.word.proofs.Bytes.{bytes-length, bytes-mod, sets-append, sets-all}
+use Rattle.word.proofs.Bytes.{bytes-mod, sets-append, sets-all}
 use Rattle.loader.specs.Answer.{roomWith}
 use Rattle.loader.proofs.answers.write.Statement.{statement}
 use Rattle.loader.proofs.answers.write.Tie as tie

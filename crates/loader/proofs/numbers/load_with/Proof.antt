@@ -1,5 +1,5 @@
 use borrow.Author.Needs.{needs}
-use mathlib.Core.Path.{sym, _∙_, ap}
+use mathlib.Core.Path.{sym, _∙_}
 use Rattle.isa.proofs.Limits.{limits}
 use Rattle.loader.specs.Load.{loadedWith}
 use Rattle.loader.proofs.numbers.load_with.Statement.{statement}

@@ -6,10 +6,12 @@ use Prim.Native.Nat.{ℕ, _≤_}
 use lib.ListN.{length}
 use Rattle.word.specs.Bytes.{words}
 use Rattle.isa.specs.Table.{tableOf}
-use Rattle.isa.proofs.Limits.{Limits, limits}
+use Rattle.isa.specs.Limits.{Limits}
+use Rattle.isa.proofs.Limits.{limits}
 use Rattle.loader.specs.Load.{loadedWith}
 use Rattle.loader.specs.declared.Loaded.the-variants.{Good}
-use Rattle.loader.proofs.Refusals.{Passed, passed, accepted}
+use Rattle.loader.specs.Passed.{Passed}
+use Rattle.loader.proofs.Refusals.{passed, accepted}
 use Rattle.machine.specs.Run.{Call, sizesOf}
 use Rattle.sandbox.proofs.Calls.{done-by, fits}
 use Rattle.sandbox.proofs.call.call.Statement.{statement}
