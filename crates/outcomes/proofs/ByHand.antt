@@ -1,0 +1,67 @@
+-- The promises that no equation settles by itself, each by its own reason.
+use mathlib.Core.Path.{_≡_, sym, ap, _∙_}
+use mathlib.Core.Bool.{Bool, true}
+use mathlib.Core.List.{List, []}
+use Prim.Native.Nat.{ℕ}
+use Rattle.word.specs.Bytes.{words}
+use Rattle.vliw.specs.Run.{run}
+use Rattle.vliw.specs.Machine.{inOrder, step}
+use Rattle.isa.specs.Program.{following, isStart}
+use Rattle.isa.specs.declared.Place.{Place}
+use Rattle.isa.specs.declared.Table.{Table}
+use Rattle.schedule.specs.Rule.{Says}
+use Rattle.schedule.specs.Answer.{Checks}
+use Rattle.schedule.specs.declared.Verdict.{Verdict}
+use Rattle.schedule.proofs.Once.{one-verdict, one-outcome}
+use Rattle.memory.specs.Memory.{store, anyShare}
+use Rattle.memory.specs.Held.{storesIn}
+use Rattle.machine.specs.Image.{placeIn, registersIn}
+use Rattle.machine.specs.Instruction.{instructionOf}
+use Rattle.machine.specs.State.{registersOf, Sized}
+use Rattle.machine.specs.declared.State.{State}
+use Rattle.ticks.specs.Ticks.{views}
+use Rattle.run.specs.Turn.{Returned}
+use Rattle.run.specs.declared.Ran.{Ran}
+use Rattle.outcomes.specs.OneOutcome.{OneOutcome}
+use Rattle.outcomes.proofs.States.{place-is, state-is}
+
+-- a place is its number
+pub isa-following-one : (program : List ℕ) (at : Place) → OneOutcome (λ (r : Place). r .0 ≡ following (words program) (at .0))
+isa-following-one program at a b p q = place-is (p ∙ sym q)
+
+-- the lowest producer, and its lowest consumer
+pub schedule-check-one : (table : Table) (program : List ℕ) → OneOutcome (λ (r : Verdict). Says (table .delays) (words program) r)
+schedule-check-one table program = one-verdict (table .delays) (words program)
+
+-- the values do not matter, so take none
+pub memory-shared-one : (at size : List ℕ) (count : ℕ) → OneOutcome (λ (r : Bool). ((vs : List ℕ) → r ≡ anyShare (storesIn at vs size count)))
+memory-shared-one at size count a b p q = p [] ∙ sym (q [])
+
+-- a state is its place and its registers
+pub machine-read-one : (image : List ℕ)
+    → OneOutcome (λ (r : State). Sized r × ((r .place .0 ≡ placeIn image) × (registersOf r ≡ registersIn image)))
+machine-read-one image a b p q = state-is (p .0) (q .0) (p .1 .1 ∙ sym (q .1 .1)) (p .1 .0 ∙ sym (q .1 .0))
+
+pub ticks-leave-one : (value old ready land : List ℕ) (t : ℕ) (place : Place)
+    → OneOutcome (λ (s : State). Sized s × (s .place ≡ place) × (registersOf s ≡ views t value old ready land))
+ticks-leave-one value old ready land t place a b p q =
+    state-is (p .0) (q .0) (p .2 ∙ sym (q .2)) (ap (λ (x : Place). x .0) (p .1 ∙ sym (q .1)))
+
+-- what the machine's run leaves is what is returned
+pub run-run-one : (table : Table) (program memory landing : List ℕ) (n : ℕ) (s : State)
+    → OneOutcome (λ (o : record { result : Ran; memory : List ℕ }). (isStart (words program) (o .result .state .place .0) ≡ true)
+    × Returned (run (step store (instructionOf (table .delays) (words program))) n
+    (record { place = s .place .0; registers = registersOf s; memory = memory; landing = landing; orders = inOrder })) (o .result) (o .memory))
+run-run-one table program memory landing n s a b (_, p) (_, q) =
+    let state : a .result .state ≡ b .result .state =
+    state-is (p .sized) (q .sized) (sym (p .registers) ∙ q .registers) (sym (p .place) ∙ q .place) in
+    λ i. record {
+      result = record { number = (sym (p .number) ∙ q .number) i; count = record { 0 = (sym (p .count) ∙ q .count) i }; state = state i };
+      memory = (sym (p .memory) ∙ q .memory) i;
+    }
+
+pub sandbox-vex-check-one : (table program room : List ℕ)
+    → OneOutcome (λ (o : record { result : ℕ; room : List ℕ }). Checks table program room (record { result = o .result; room = o .room }))
+sandbox-vex-check-one table program room a b p q =
+    let e = one-outcome table program room _ _ p q in
+    λ i. record { result = e i .result; room = e i .room }

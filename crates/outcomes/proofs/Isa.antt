@@ -1,0 +1,30 @@
+-- Written by tests/public. Two outcomes that meet an equation are equal.
+use mathlib.Core.Path.{_∙_, sym}
+use Rattle.outcomes.specs.Isa.{Isa}
+use Rattle.outcomes.proofs.ByHand.{isa-following-one}
+
+pub isa : Isa
+isa = record {
+  immediate-one = λ _ _ _ p q. p ∙ sym q;
+  offset-one = λ _ _ _ p q. p ∙ sym q;
+  decode-one = λ _ _ _ _ p q. p ∙ sym q;
+  syllable-one = λ _ _ _ _ p q. p ∙ sym q;
+  following-one = isa-following-one;
+  is-start-one = λ _ _ _ _ p q. p ∙ sym q;
+  bits-one = λ _ _ _ _ _ p q. p ∙ sym q;
+  holds-one = λ _ _ _ _ _ _ p q. p ∙ sym q;
+  ends-one = λ _ _ _ p q. p ∙ sym q;
+  opens-one = λ _ _ _ p q. p ∙ sym q;
+  opcode-one = λ _ _ _ p q. p ∙ sym q;
+  format-one = λ _ _ _ p q. p ∙ sym q;
+  is-alu-one = λ _ _ _ p q. p ∙ sym q;
+  is-mul-one = λ _ _ _ p q. p ∙ sym q;
+  is-mem-one = λ _ _ _ p q. p ∙ sym q;
+  is-copy-one = λ _ _ _ p q. p ∙ sym q;
+  is-stop-one = λ _ _ _ p q. p ∙ sym q;
+  is-control-one = λ _ _ _ p q. p ∙ sym q;
+  breaks-one = λ _ _ _ p q. p ∙ sym q;
+  read-one = λ _ _ _ p q. p ∙ sym q;
+  delay-one = λ _ _ _ _ _ p q. p ∙ sym q;
+  stray-one = λ _ _ _ p q. p ∙ sym q;
+}

@@ -1,0 +1,13 @@
+-- Written by tests/public. Two outcomes that meet an equation are equal.
+use mathlib.Core.Path.{_∙_, sym}
+use Rattle.outcomes.specs.Machine.{Machine}
+use Rattle.outcomes.proofs.ByHand.{machine-read-one}
+
+pub machine : Machine
+machine = record {
+  read-one = machine-read-one;
+  write-one = λ _ _ _ _ p q. p ∙ sym q;
+  of-run-one = λ _ _ _ _ _ p q. p ∙ sym q;
+  of-reply-one = λ _ _ _ p q. p ∙ sym q;
+  registers-break-one = λ _ _ _ p q. p ∙ sym q;
+}

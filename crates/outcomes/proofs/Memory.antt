@@ -1,0 +1,13 @@
+-- Written by tests/public. Two outcomes that meet an equation are equal.
+use mathlib.Core.Path.{_∙_, sym}
+use Rattle.outcomes.specs.Memory.{Memory}
+use Rattle.outcomes.proofs.ByHand.{memory-shared-one}
+
+pub memory : Memory
+memory = record {
+  size-one = λ _ _ _ p q. p .0 ∙ sym (q .0);
+  fault-one = λ _ _ _ _ _ p q. p .0 ∙ sym (q .0);
+  load-one = λ _ _ _ _ _ p q. p ∙ sym q;
+  store-all-one = λ _ _ _ _ _ _ _ p q. p ∙ sym q;
+  shared-one = memory-shared-one;
+}

@@ -1,0 +1,28 @@
+-- Written by tests/public.
+use mathlib.Core.Path.{refl}
+use Rattle.outcomes.specs.Public.{Public}
+use Rattle.outcomes.proofs.Word.{word}
+use Rattle.outcomes.proofs.Ops.{ops}
+use Rattle.outcomes.proofs.Isa.{isa}
+use Rattle.outcomes.proofs.Loader.{loader}
+use Rattle.outcomes.proofs.Schedule.{schedule}
+use Rattle.outcomes.proofs.Memory.{memory}
+use Rattle.outcomes.proofs.Machine.{machine}
+use Rattle.outcomes.proofs.Ticks.{ticks}
+use Rattle.outcomes.proofs.Run.{run}
+use Rattle.outcomes.proofs.Sandbox.{sandbox}
+
+pub public : Public
+public = record {
+  word = word;
+  ops = ops;
+  isa = isa;
+  loader = loader;
+  schedule = schedule;
+  memory = memory;
+  machine = machine;
+  ticks = ticks;
+  run = run;
+  sandbox = sandbox;
+  nothing = λ _ _ _ _. refl;
+}

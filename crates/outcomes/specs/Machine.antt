@@ -1,0 +1,27 @@
+-- Written by tests/public. The promise of each public function of machine admits one outcome only.
+use mathlib.Core.Bool.{Bool}
+use mathlib.Core.List.{List}
+use mathlib.Core.Path.{_≡_}
+use Prim.Native.Nat.{ℕ}
+use Rattle.word.specs.Lists.{anyBelow}
+use Rattle.vliw.specs.Cell.{at}
+use Rattle.isa.specs.declared.Count.{Count}
+use Rattle.isa.specs.declared.Place.{Place}
+use Rattle.loader.specs.declared.Answer.{Answer}
+use Rattle.machine.specs.Image.{imageOf, placeIn, registersIn}
+use Rattle.machine.specs.Reply.{replyAnswer, replyBy}
+use Rattle.machine.specs.State.{Sized, registersOf}
+use Rattle.machine.specs.Valid.{cellBreaks}
+use Rattle.machine.specs.declared.Reply.{Reply}
+use Rattle.machine.specs.declared.State.{State}
+use Rattle.outcomes.specs.OneOutcome.{OneOutcome}
+
+pub record Machine : Type 0 where
+  -- crates/machine/src/image.rt
+  pub read-one : (image : List ℕ) → OneOutcome (λ (r : State). (Sized r) × ((r .place .0 ≡ placeIn image) × (registersOf r ≡ registersIn image)))
+  pub write-one : (image : List ℕ) (s : State) → OneOutcome (λ (image′ : List ℕ). image′ ≡ imageOf (s .place .0) (registersOf s))
+  -- crates/machine/src/replies.rt
+  pub of-run-one : (number : ℕ) (count : Count) (place : Place) → OneOutcome (λ (r : Reply). r ≡ replyBy number count place)
+  pub of-reply-one : (r : Reply) → OneOutcome (λ (a : Answer). a ≡ replyAnswer r)
+  -- crates/machine/src/valid.rt
+  pub registers-break-one : (s : State) → OneOutcome (λ (b : Bool). b ≡ anyBelow (λ r. cellBreaks r (at (registersOf s) r)) 288)

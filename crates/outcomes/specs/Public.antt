@@ -1,0 +1,26 @@
+-- Written by tests/public. The promise of every public function admits one outcome only; docs/PUBLIC.md lists them, and the exceptions.
+use Rattle.outcomes.specs.OneOutcome.{OneOutcome}
+use Rattle.outcomes.specs.Word.{Word}
+use Rattle.outcomes.specs.Ops.{Ops}
+use Rattle.outcomes.specs.Isa.{Isa}
+use Rattle.outcomes.specs.Loader.{Loader}
+use Rattle.outcomes.specs.Schedule.{Schedule}
+use Rattle.outcomes.specs.Memory.{Memory}
+use Rattle.outcomes.specs.Machine.{Machine}
+use Rattle.outcomes.specs.Ticks.{Ticks}
+use Rattle.outcomes.specs.Run.{Run}
+use Rattle.outcomes.specs.Sandbox.{Sandbox}
+
+pub record Public : Type 0 where
+  pub word : Word
+  pub ops : Ops
+  pub isa : Isa
+  pub loader : Loader
+  pub schedule : Schedule
+  pub memory : Memory
+  pub machine : Machine
+  pub ticks : Ticks
+  pub run : Run
+  pub sandbox : Sandbox
+  -- a function that returns nothing and changes nothing has one outcome, even if it promises nothing
+  pub nothing : OneOutcome (λ (o : record {}). Unit)

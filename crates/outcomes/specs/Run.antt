@@ -1,0 +1,25 @@
+-- Written by tests/public. The promise of each public function of run admits one outcome only.
+use mathlib.Core.Bool.{true}
+use mathlib.Core.List.{List}
+use mathlib.Core.Path.{_≡_}
+use Prim.Native.Nat.{ℕ}
+use Rattle.word.specs.Bytes.{words}
+use Rattle.vliw.specs.Machine.{inOrder, step}
+use Rattle.vliw.specs.Run.{run}
+use Rattle.isa.specs.Program.{isStart}
+use Rattle.isa.specs.declared.Table.{Table}
+use Rattle.memory.specs.Memory.{store}
+use Rattle.machine.specs.Instruction.{instructionOf}
+use Rattle.machine.specs.State.{registersOf}
+use Rattle.machine.specs.declared.State.{State}
+use Rattle.run.specs.Turn.{Returned}
+use Rattle.run.specs.declared.Ran.{Ran}
+use Rattle.outcomes.specs.OneOutcome.{OneOutcome}
+
+pub record Run : Type 0 where
+  -- crates/run/src/lib.rt
+  pub run-one : (table : Table) (program memory landing : List ℕ) (n : ℕ) (s : State)
+      → OneOutcome (λ (o : record { result : Ran; memory : List ℕ }).
+      (isStart (words program) (o .result .state .place .0) ≡ true)
+      × (Returned (run (step store (instructionOf (table .delays) (words program))) n
+      (record { place = s .place .0; registers = registersOf s; memory = memory; landing = landing; orders = inOrder })) (o .result) (o .memory)))
