@@ -1,5 +1,6 @@
 -- What the crates above ask of a program that loads.
 use mathlib.Core.List.{List}
+use Prim.Native.Nat.{ℕ}
 use lib.ListN.{length}
 use Rattle.word.specs.Lowest.{NoneBelow}
 use Rattle.isa.specs.declared.Table.{Table}

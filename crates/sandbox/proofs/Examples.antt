@@ -68,7 +68,7 @@ module _ (d : Delays) (program : List ℕ) where
   abbrev touchers : ℕ → List ℕ
   touchers p = join (touchersOf p) (destsAt d program p)
 
-  soon : {p q : ℕ} → TooSoonAt d program p q → List·Memᴰ q (touchers p)
+  pub soon : {p q : ℕ} → TooSoonAt d program p q → List·Memᴰ q (touchers p)
   soon {p} t =
       let e : Dest = t .result in
       let near = within-in p (e .delay - 1) (t .after) (omega (arith, t .before)) (later-in p (t .k) (t .path)) in

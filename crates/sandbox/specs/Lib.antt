@@ -3,3 +3,7 @@ pub mod Wrong
 pub mod Schedules
 pub mod WrongRun
 pub mod Checked
+pub mod Calls
+pub mod Demand1
+pub mod Demand3
+pub mod Clusters

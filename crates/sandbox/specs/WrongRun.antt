@@ -9,6 +9,7 @@ use Rattle.word.specs.Bytes.{wordAt}
 use Rattle.loader.specs.Answer.{answer, roomWith}
 use Rattle.machine.specs.Image.{placeIn}
 use Rattle.machine.specs.Run.{Call, Outcome, runOutcome}
+use Rattle.sandbox.specs.Calls.{withLimit, withLanding}
 use Rattle.sandbox.specs.Wrong.{table, program, room}
 
 -- a state of zeros
@@ -31,31 +32,6 @@ adding = calling (0xC1 ∷ 0x0C ∷ 0x08 ∷ 0x05 ∷ 0xC1 ∷ 0x10 ∷ 0x08 ∷
 -- cmpeq to branch register 0 of registers 0 and 0, with CMPB 2; stop
 abbrev pub comparing : List ℕ → Call
 comparing landing = calling (0xE8 ∷ 0x00 ∷ 0x00 ∷ 0x00 ∷ 0xC0 ∷ 0x04 ∷ 0x00 ∷ 0x00 ∷ []) landing 1
-
--- the same call with another limit, with other landing bytes
-abbrev pub withLimit : ℕ → Call → Call
-withLimit n c =
-    record {
-      table = c .table;
-      program = c .program;
-      state = c .state;
-      memory = c .memory;
-      landing = c .landing;
-      n = n;
-      room = c .room;
-    }
-
-abbrev pub withLanding : List ℕ → Call → Call
-withLanding landing c =
-    record {
-      table = c .table;
-      program = c .program;
-      state = c .state;
-      memory = c .memory;
-      landing = landing;
-      n = c .n;
-      room = c .room;
-    }
 
 abbrev pub refusesAllRuns : Call → Outcome
 refusesAllRuns c = record { result = 1; state = c .state; memory = c .memory; room = roomWith (answer 1 0 0) (c .room) }

@@ -6,6 +6,7 @@ ghost use Rattle.sandbox.specs.Promise.{Load, Check, Run};
 ghost use Rattle.schedule.specs.Answer.{Answers, Checks};
 
 mod call;
+pub mod demands;
 
 use call::call;
 use isa::tables::read;
