@@ -21,10 +21,14 @@ pub struct State {
 }
 
 // What run replies: what stood against loading, a state that is not valid, or how the run ended, after how many instructions and where.
+// The last four are the faults, 11 to 14.
 pub enum Reply {
     Unloaded(Refusal),
     Invalid,
     Paused(Count, Place),
     Stopped(Count, Place),
-    Fault(u32, Count, Place),
+    Busy(Count, Place),
+    Uneven(Count, Place),
+    Beyond(Count, Place),
+    Shared(Count, Place),
 }

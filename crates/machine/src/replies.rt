@@ -15,10 +15,19 @@ pub fn of_run(number: u32, count: Count, place: Place) -> Reply
     if number == 0 {
         return Reply::Paused(count, place);
     }
-    if number == 255 {
-        return Reply::Stopped(count, place);
+    if number == 11 {
+        return Reply::Busy(count, place);
     }
-    Reply::Fault(number, count, place)
+    if number == 12 {
+        return Reply::Uneven(count, place);
+    }
+    if number == 13 {
+        return Reply::Beyond(count, place);
+    }
+    if number == 14 {
+        return Reply::Shared(count, place);
+    }
+    Reply::Stopped(count, place)
 }
 
 fn given(number: u32, count: Count, place: Place) -> Answer
@@ -39,6 +48,9 @@ pub fn of_reply(r: Reply) -> Answer
         Reply::Invalid => given(10, Count(0), Place(0)),
         Reply::Paused(n, i) => given(0, n, i),
         Reply::Stopped(n, i) => given(255, n, i),
-        Reply::Fault(k, n, i) => given(k, n, i),
+        Reply::Busy(n, i) => given(11, n, i),
+        Reply::Uneven(n, i) => given(12, n, i),
+        Reply::Beyond(n, i) => given(13, n, i),
+        Reply::Shared(n, i) => given(14, n, i),
     }
 }

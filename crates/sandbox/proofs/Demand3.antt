@@ -150,8 +150,8 @@ module _ (c : Call) (l : Lent c) (p : Passes (c .table) (c .program)) (q : Nothi
   both-run t =
       let x = plainly c p q l t in
       let y = plainly other p q (record { state = l .state; memory = l .memory }) (record { good = t .good; valid = t .valid }) in
-      subst (λ (o : Outcome). Alike o (given (ended (ranOf other)) (c .room))) (sym (given-left (ranOf c) (c .room)))
-      (subst (Alike (leftBy (ranOf c) (c .room))) (sym (given-left (ranOf other) (c .room))) (both c landing x y))
+      subst (λ (o : Outcome). Alike o (given (ended (ranOf other)) (c .room))) (sym (given-left c))
+      (subst (Alike (leftBy (ranOf c) (c .room))) (sym (given-left other)) (both c landing x y))
 
   alike : Alike (runOutcome c) (runOutcome other)
   unfolding doneOf

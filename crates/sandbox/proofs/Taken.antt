@@ -1,11 +1,12 @@
 -- A call of run is refused, with the state and the memory as given, or it runs.
 use mathlib.Core.Path.{_≡_, refl, sym, ap, subst, _∙_}
-use mathlib.Core.Logic.{_≢_, ⊎-elim}
+use mathlib.Core.Logic.{_≢_, _⊎_, ⊎-elim}
 use mathlib.Core.Bool.{false}
 use mathlib.Core.List.{List}
 use Prim.Native.Nat.{ℕ, _≤_}
 use native.Mathlib.Omega.{arith}
 use lib.Dec.{eqb}
+use native.Mathlib.Nat.{eq-or-lt-of-le}
 use lib.ListN.{length}
 use borrow.Author.Tests.{eqb-true, eq-eqb, le-ltb}
 use Rattle.word.specs.Bytes.{words}
@@ -30,8 +31,9 @@ use Rattle.memory.specs.Memory.{Store}
 use Rattle.machine.specs.Image.{imageOf}
 use Rattle.machine.specs.Valid.{stateBreaks}
 use Rattle.machine.specs.Reply.{replyAnswer, replyBy}
-use Rattle.machine.specs.Run.{Call, Outcome, Done, ranOf, ended, doneBy, sizesOf, doneOf, runOutcome}
+use Rattle.machine.specs.Run.{Call, Outcome, Done, stateOf, ranOf, ended, doneBy, sizesOf, doneOf, runOutcome}
 use Rattle.sandbox.specs.Calls.{outcome}
+use Rattle.sandbox.proofs.Numbers.{Fault, run-known}
 use Rattle.sandbox.proofs.Calls.{Fits, fits}
 
 abbrev pub found : Call → Loaded
@@ -75,17 +77,31 @@ pub data Answered (c : Call) : Outcome → Type 0 where
 abbrev pub given : Done → List ℕ → Outcome
 given d room = outcome (replyAnswer (d .reply)) (d .state) (d .memory) room
 
-reply-answer : (number : ℕ) (n : Count) (i : Place) → replyAnswer (replyBy number n i) ≡ answer number (n .0) (i .0)
-reply-answer number n i =
-    ⊎-elim
-    (λ e. rw (e, eqb-true number 0 e))
-    (λ e. rw e (⊎-elim (λ f. rw (f, eqb-true number 255 f)) (λ f. rw f) (by-test (eqb number 255))))
-    (by-test (eqb number 0))
+-- the reply of a number that a run ends with has that number
+module _ (k : ℕ) (n : Count) (i : Place) where
+  abbrev Replied : Type 0
+  Replied = replyAnswer (replyBy k n i) ≡ answer k (n .0) (i .0)
 
-pub given-left : (r : Ran (State (List ℕ) Store)) (room : List ℕ) → given (ended r) room ≡ leftBy r room
-given-left r room =
+  fault-answer : Fault k → Replied
+  fault-answer (low, high) =
+      ⊎-elim
+      (λ (e : 11 ≡ k). rw (← e))
+      (λ (p : 12 ≤ k).
+      ⊎-elim
+      (λ (e : 12 ≡ k). rw (← e))
+      (λ (q : 13 ≤ k). ⊎-elim (λ (e : 13 ≡ k). rw (← e)) (λ (r : 14 ≤ k). let e : k ≡ 14 = omega arith in rw e) (eq-or-lt-of-le q))
+      (eq-or-lt-of-le p))
+      (eq-or-lt-of-le low)
+
+  reply-answer : (k ≡ 0) ⊎ (k ≡ 255) ⊎ Fault k → Replied
+  reply-answer = ⊎-elim (λ e. rw e) (⊎-elim (λ e. rw e) fault-answer)
+
+pub given-left : (c : Call) → given (ended (ranOf c)) (c .room) ≡ leftBy (ranOf c) (c .room)
+given-left c =
+    let r = ranOf c in
     let s = r .state in
-    ap (λ (a : Answer). outcome a (imageOf (s .place) (s .registers)) (s .memory) room) (reply-answer (r .number) (record { 0 = r .count }) (record { 0 = s .place }))
+    ap (λ (a : Answer). outcome a (imageOf (s .place) (s .registers)) (s .memory) (c .room))
+    (reply-answer (r .number) (record { 0 = r .count }) (record { 0 = s .place }) (run-known (tableOf (c .table) .delays) (words (c .program)) (c .n) (stateOf c) .number))
 
 pub answered : (c : Call) → Answered c (runOutcome c)
 unfolding doneOf
@@ -96,12 +112,12 @@ answered c = by (found c) refl
     by Good e =
         ⊎-elim
         (λ b. rw b (not-run (answer 10 0 0) (record { some = omega arith; few = omega arith; unchecked = λ e. omega arith; none = refl })))
-        (λ b. rw b (subst (Answered c) (sym (given-left (ranOf c) (c .room))) (did-run (record { good = e; valid = b }))))
+        (λ b. rw b (subst (Answered c) (sym (given-left c)) (did-run (record { good = e; valid = b }))))
         (by-test (stateBreaks (words (c .program)) (c .state)))
 
 pub taken-runs : (c : Call) → Taken c → runOutcome c ≡ leftBy (ranOf c) (c .room)
 unfolding doneOf
-taken-runs c t = rw (t .good, t .valid) (given-left (ranOf c) (c .room))
+taken-runs c t = rw (t .good, t .valid) (given-left c)
 
 module _ {c : Call} (t : Taken c) where
   tests : Accepted (sizesOf (c .program) (c .memory) (c .state) (c .room)) (c .table) (c .program)
