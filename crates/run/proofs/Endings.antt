@@ -86,18 +86,18 @@ ended-as x s = ⊎-elim (λ e. rw e) (λ e. rw e) (by-test (eqb x 255))
 pub returned : {d : Delays} {p landing : List ℕ} {n : ℕ} {k l : Registers} {place : ℕ} {m₀ : List ℕ} {r : Ended} {vs os rs ls m : List ℕ} {x : Left}
     → k ≡ l
     → Finished d p landing n (stateAt place k m₀ landing 0) r vs os rs ls m
-    → Sized (x .state) → x .number ≡ r .number → x .count .0 ≡ r .count → x .state .place .0 ≡ r .place .0
-    → registersOf (x .state) ≡ views (leftAt (r .number) (r .count)) vs os rs ls
+    → Sized (x .state) → x .number ≡ r .number → x .count .0 ≡ r .count .0 → x .state .place .0 ≡ r .place .0
+    → registersOf (x .state) ≡ views (leftAt (r .number) (r .count .0)) vs os rs ls
     → Returned (run (step store (instructionOf d p)) n (record { place = place; registers = l; memory = m₀; landing = landing; orders = inOrder })) x m
 returned {d} {p} {landing} {n} {k} {l} {place} {m₀} {r} {vs} {os} {rs} {ls} {m} {x} e f sized number count place′ registers =
     let o : run (step store (instructionOf d p)) n (record { place = place; registers = l; memory = m₀; landing = landing; orders = inOrder })
     ≡ record {
       number = r .number;
-      count = r .count;
+      count = r .count .0;
       state =
           record {
             place = r .place .0;
-            registers = pick (eqb (r .number) 255) (map rested (views (r .count) vs os rs ls)) (views (r .count) vs os rs ls);
+            registers = pick (eqb (r .number) 255) (map rested (views (r .count .0) vs os rs ls)) (views (r .count .0) vs os rs ls);
             memory = m;
             landing = drop (r .used) landing;
             orders = inOrder;

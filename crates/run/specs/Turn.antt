@@ -71,12 +71,12 @@ pub record Turned (d : Delays) (program landing : List ℕ) (t used : ℕ) (s : 
 
 -- at most n turns from `s` to r and the arrays
 pub record Finished (d : Delays) (program landing : List ℕ) (n : ℕ) (s : State (List ℕ) Store) (r : Ended) (vs os rs ls m : List ℕ) : Type 0 where
-  pub few : r .count ≤ n
+  pub few : r .count .0 ≤ n
   pub known : r .number < 256
-  pub bank : Bank (r .count) vs os rs ls
+  pub bank : Bank (r .count .0) vs os rs ls
   pub start : isStart program (r .place .0) ≡ true
   pub is : run (step store (instructionOf d program)) n s
-      ≡ record { number = r .number; count = r .count; state = endedBy (r .number) (stateAt (r .place .0) (views (r .count) vs os rs ls) m landing (r .used)) }
+      ≡ record { number = r .number; count = r .count .0; state = endedBy (r .number) (stateAt (r .place .0) (views (r .count .0) vs os rs ls) m landing (r .used)) }
 
 -- k instructions are done, and the rest of the run is r
 abbrev pub after : ℕ → Ran (State (List ℕ) Store) → Ran (State (List ℕ) Store)

@@ -39,7 +39,7 @@ pub struct Stepped {
 // How a run ended, and after how many instructions; the place and the landing bytes as above.
 pub struct Ended {
     pub number: u64,
-    pub count: u64,
+    pub count: Count,
     pub place: Place,
     pub used: usize,
 }
@@ -182,16 +182,16 @@ fn run_all(
         (stateAt (place .0) (views 0 (now (value .entry)) (now (old .entry)) (now (ready .entry)) (now (land .entry))) (now (memory .entry)) (now (landing .entry)) 0)
         r (now (value .exit)) (now (old .exit)) (now (ready .exit)) (now (land .exit)) (now (memory .exit)) ⌝ }
 {
-    let mut k: u64 = 0;
+    let mut done = Count(0);
     let mut at = place;
     let mut used: usize = 0;
-    while k < n {
+    while done.0 < n {
         let r = step(
             program,
             memory,
             landing,
             delays,
-            k,
+            done.0,
             at,
             used,
             value,
@@ -211,27 +211,27 @@ fn run_all(
         if number != 0 {
             return Ended {
                 number,
-                count: k,
+                count: done,
                 place: at,
                 used,
             };
         }
-        k += 1;
+        done = Count(done.0 + 1);
     }
     Ended {
         number: 0,
-        count: k,
+        count: done,
         place: at,
         used,
     }
 }
 
 // The tick at which the registers are left.
-fn left_at(number: u64, count: u64) -> u64
-    requires { ⌜ count < 4294967296 ⌝ }
-    ensures { λ r. ⌜ r ≡ leftAt number count ⌝ }
+fn left_at(number: u64, count: Count) -> u64
+    requires { ⌜ count .0 < 4294967296 ⌝ }
+    ensures { λ r. ⌜ r ≡ leftAt number (count .0) ⌝ }
 {
-    if number == 255 { count + 8 } else { count }
+    if number == 255 { count.0 + 8 } else { count.0 }
 }
 
 // A run of at most n instructions, from a valid state of a program that loads.
@@ -275,11 +275,12 @@ pub fn run(table: Table, program: &[u8], memory: &mut [u8], landing: &[u8], n: u
         &mut word,
         &mut size,
     );
-    let t = left_at(r.number, r.count);
+    let count = r.count;
+    let t = left_at(r.number, count);
     let state = leave(&value, &old, &ready, &land, t, r.place);
     Ran {
         number: r.number as u32,
-        count: Count(r.count),
+        count,
         state,
     }
 }

@@ -5,7 +5,7 @@ use Rattle.run.proofs.left_at.Statement.{statement}
 use Rattle.run.proofs.left_at.Tie as tie
 
 returns : tie.Need-returns
-returns c = rw (c .if1 .taken)
+returns c = rw (c .before .if1 .taken)
 
 returns-2 : tie.Need-returns-2
 returns-2 c = rw (ne-eqb _ 255 (c .if1 .left))

@@ -28,23 +28,23 @@ run-all-requires c κs =
     )
 
 left-at-requires : tie.Need-left-at-requires
-left-at-requires c κs = omega (arith, c .before .before .run-all .ensures .few, c .before .before .before .before .before .before .before .before .before .before .before .before .before .before .before .before .before .before .before .before .before .before .fits)
+left-at-requires c κs = omega (arith, c .before .before .before .run-all .ensures .few, c .before .before .before .before .before .before .before .before .before .before .before .before .before .before .before .before .before .before .before .before .before .before .before .fits)
 
 leave-requires : tie.Need-leave-requires
 leave-requires c κs =
-    let r = c .before .before .before .before .before .before .before .run-all in
+    let r = c .before .before .before .before .before .before .before .before .run-all in
     rw (c .before .before .before .before .left-at .ensures) (left-bank (r .ensures .bank) (r .result .number))
 
-cast-t42 : tie.Need-cast-t42
-cast-t42 c = search needs
+cast-t43 : tie.Need-cast-t43
+cast-t43 c = search needs
 
 same-length : tie.Need-same-length
 same-length c = search needs
 
 returns : tie.Need-returns
 returns c =
-    let e = c .before .before .before .before .before .before .before .before .before .before .before .before .before .before .before .before .before .before .before .before .before .enter .ensures in
-    let f = c .before .before .before .before .before .before .before .before .before .run-all .ensures in
+    let e = c .before .before .before .before .before .before .before .before .before .before .before .before .before .before .before .before .before .before .before .before .before .before .enter .ensures in
+    let f = c .before .before .before .before .before .before .before .before .before .before .run-all .ensures in
     let l = c .before .leave .ensures in
     (rw (ap (λ (q : Place). q .0) (l .1 .0)) (f .start), returned (e .1) f (l .0) refl refl (ap (λ (q : Place). q .0) (l .1 .0)) (l .1 .1 ∙ rw (c .before .before .before .before .before .before .left-at .ensures)))
 
@@ -56,6 +56,6 @@ run-spec =
     run-all-requires
     left-at-requires
     leave-requires
-    cast-t42
+    cast-t43
     same-length
     returns)

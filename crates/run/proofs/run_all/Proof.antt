@@ -16,14 +16,14 @@ use Rattle.run.proofs.run_all.Statement.{statement}
 use Rattle.run.proofs.run_all.Tie as tie
 
 abbrev Inv-loop : tie.InvT-loop
-Inv-loop program memory₀ landing delays n value₀ old₀ ready₀ land₀ reg₀ val₀ del₀ to₀ word₀ size₀ k₀ at₀ used₀ memory value old ready land reg val del to word size k at used =
-    (k ≤ n) × (used ≤ 64 * k) × (length memory ≡ length memory₀) × Running k (words program) (at .0) value old ready land × Room reg val del to word size
+Inv-loop program memory₀ landing delays n value₀ old₀ ready₀ land₀ reg₀ val₀ del₀ to₀ word₀ size₀ done₀ at₀ used₀ memory value old ready land reg val del to word size done at used =
+    (done .0 ≤ n) × (used ≤ 64 * done .0) × (length memory ≡ length memory₀) × Running (done .0) (words program) (at .0) value old ready land × Room reg val del to word size
     × (run (step store (instructionOf delays (words program))) n (stateAt (at₀ .0) (views 0 value₀ old₀ ready₀ land₀) memory₀ landing 0)
-    ≡ after k (run (step store (instructionOf delays (words program))) (n - k) (stateAt (at .0) (views k value old ready land) memory landing used)))
+    ≡ after (done .0) (run (step store (instructionOf delays (words program))) (n - done .0) (stateAt (at .0) (views (done .0) value old ready land) memory landing used)))
 
 abbrev μ-loop : tie.MeasureT-loop
-μ-loop program memory₀ landing delays n value₀ old₀ ready₀ land₀ reg₀ val₀ del₀ to₀ word₀ size₀ k₀ at₀ used₀ memory value old ready land reg val del to word size k at used =
-    n - k
+μ-loop program memory₀ landing delays n value₀ old₀ ready₀ land₀ reg₀ val₀ del₀ to₀ word₀ size₀ done₀ at₀ used₀ memory value old ready land reg val del to word size done at used =
+    n - done .0
 
 loop-holds : tie.Need-loop-holds Inv-loop μ-loop
 loop-holds c =
@@ -31,15 +31,12 @@ loop-holds c =
     let p = h .pre in
     (omega arith, omega arith, refl, p .1 .0, p .1 .1 .0, sym (run-begun (step store (instructionOf (h .args .delays) (words (h .args .program .now)))) (h .args .n) _))
 
-abbrev turn : tie.After-step Inv-loop μ-loop → tie.In-loop Inv-loop μ-loop
-turn s = s .before .before .before .before .before .before .before .before .before .before .before .before
-
 step-requires : tie.Need-step-requires Inv-loop μ-loop
 step-requires c κs =
     let i = c .before .before .before .before .before .before .before .before .before .before .before in
-    let v = i .before .loop .inv in
-    let p = c .before .before .before .before .before .before .before .before .before .before .before .before .before .before .before .before .pre in
-    (p .0, (v .3, (v .4, (omega (arith, i .loop-test .taken, p .1 .1 .1), v .1))))
+    let v = i .before .before .loop .inv in
+    let p = c .before .before .before .before .before .before .before .before .before .before .before .before .before .before .before .before .before .pre in
+    (p .0, (v .3, (v .4, (omega (arith, i .if1 .taken, p .1 .1 .1), v .1))))
 
 same-length : tie.Need-same-length Inv-loop μ-loop
 same-length c = search needs
@@ -47,46 +44,52 @@ same-length c = search needs
 returns : tie.Need-returns Inv-loop μ-loop
 returns c =
     let s = c .before .before .before .before in
-    let i = turn s in
-    let v = i .before .loop .inv in
+    let i = s .before .before .before .before .before .before .before .before .before .before .before .before in
+    let v = i .before .before .loop .inv in
     let e = s .step .ensures .1 in
-    let x = c .if1 .taken in
+    let x = c .if2 .taken in
     record {
       few = v .0;
       known = e .known;
       bank = e .off x .bank;
       start = e .off x .start;
-      is = v .5 ∙ turn-last _ _ _ _ _ _ _ (e .is) x (i .loop-test .taken);
+      is = v .5 ∙ turn-last _ _ _ _ _ _ _ (e .is) x (i .if1 .taken);
     }
 
-add-k : tie.Need-add-k Inv-loop μ-loop
-add-k c = omega (arith, c .before .before .before .before .before .before .before .before .before .before .before .before .before .before .before .before .loop-test .taken, c .before .before .before .before .before .before .before .before .before .before .before .before .before .before .before .before .before .before .before .before .before .pre .1 .1 .1)
+add-t35 : tie.Need-add-t35 Inv-loop μ-loop
+add-t35 c = omega (arith, c .before .before .before .before .before .before .before .before .before .before .before .before .before .before .before .before .before .if1 .taken, c .before .before .before .before .before .before .before .before .before .before .before .before .before .before .before .before .before .before .before .before .before .before .before .pre .1 .1 .1)
 
 loop-less : tie.Need-loop-less Inv-loop μ-loop
-loop-less c = omega (arith, c .before .before .before .before .before .before .before .before .before .before .before .before .before .before .before .before .loop-test .taken)
+loop-less c = omega (arith, c .before .before .before .before .before .before .before .before .before .before .before .before .before .before .before .before .before .if1 .taken)
 
 loop-again : tie.Need-loop-again Inv-loop μ-loop
 loop-again c =
-    let s = c .before .before .before .before in
-    let i = turn s in
-    let v = i .before .loop .inv in
+    let s = c .before .before .before .before .before in
+    let i = s .before .before .before .before .before .before .before .before .before .before .before .before in
+    let v = i .before .before .loop .inv in
     let e = s .step .ensures .1 in
-    let x = c .if1 .left in (
-      omega (arith, i .loop-test .taken),
+    let x = c .before .if2 .left in (
+      omega (arith, i .if1 .taken),
       omega (arith, e .few, v .1),
       omega arith,
       e .on x,
       s .step .ensures .0,
-      v .5 ∙ turn-next _ _ _ _ _ _ _ (e .is) x (i .loop-test .taken),
+      v .5 ∙ turn-next _ _ _ _ _ _ _ (e .is) x (i .if1 .taken),
     )
 
 same-length-2 : tie.Need-same-length-2 Inv-loop μ-loop
-same-length-2 c = c .before .loop .inv .2
+same-length-2 c = c .before .before .loop .inv .2
 
 returns-2 : tie.Need-returns-2 Inv-loop μ-loop
 returns-2 c =
-    let v = c .before .loop .inv in
-    record { few = v .0; known = omega arith; bank = v .3 .bank; start = v .3 .start; is = v .5 ∙ run-paused _ _ _ _ (c .loop-test .left) }
+    let v = c .before .before .loop .inv in
+    record {
+      few = v .0;
+      known = omega arith;
+      bank = v .3 .bank;
+      start = v .3 .start;
+      is = v .5 ∙ run-paused _ _ _ _ (c .if1 .left);
+    }
 
 pub run-all-spec : {M : Type 1} → statement M
 run-all-spec =
@@ -98,7 +101,7 @@ run-all-spec =
     step-requires
     same-length
     returns
-    add-k
+    add-t35
     loop-less
     loop-again
     same-length-2
