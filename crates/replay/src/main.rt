@@ -3,7 +3,9 @@
 use libc::STDIN_FILENO;
 
 mod programs;
+mod runs;
 mod stream;
+mod texts;
 mod values;
 
 fn main() {
@@ -19,6 +21,8 @@ fn main() {
             1 => values::answer(&header),
             2 => programs::answer(&header, false),
             3 => programs::answer(&header, true),
+            4 => runs::answer(&header),
+            5 => texts::answer(&header),
             _ => false,
         };
         if !more {

@@ -44,6 +44,18 @@ slice-aggregate-answer-3 c = search needs
 answer-requires-3 : tie.Need-answer-requires-3 Inv-loop μ-loop
 answer-requires-3 c κs = search needs
 
+slice-aggregate-answer-4 : tie.Need-slice-aggregate-answer-4 Inv-loop μ-loop
+slice-aggregate-answer-4 c = search needs
+
+answer-requires-4 : tie.Need-answer-requires-4 Inv-loop μ-loop
+answer-requires-4 c κs = search needs
+
+slice-aggregate-answer-5 : tie.Need-slice-aggregate-answer-5 Inv-loop μ-loop
+slice-aggregate-answer-5 c = search needs
+
+answer-requires-5 : tie.Need-answer-requires-5 Inv-loop μ-loop
+answer-requires-5 c κs = search needs
+
 returns-2 : tie.Need-returns-2 Inv-loop μ-loop
 returns-2 c = search needs
 
@@ -76,6 +88,10 @@ main-spec =
     answer-requires-2
     slice-aggregate-answer-3
     answer-requires-3
+    slice-aggregate-answer-4
+    answer-requires-4
+    slice-aggregate-answer-5
+    answer-requires-5
     returns-2
     add-counter
     loop-less

@@ -8,7 +8,7 @@ use second::plain::Plain;
 use second::state::State;
 
 /// So many landing lists for each program.
-const LISTS: u64 = 4;
+pub const LISTS: u64 = 4;
 
 /// The requests of so many programs; those of one program differ in their landing lists only.
 pub fn requests(seed: u64, count: u64) -> impl Iterator<Item = Request> + Send {

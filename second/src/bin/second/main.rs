@@ -5,6 +5,7 @@ mod describe;
 mod generate;
 mod landings;
 mod requests;
+mod select;
 mod tally;
 
 use generate::Kind;
@@ -24,6 +25,9 @@ second landings --seed S --count N [-- COMMAND ..]
 second record KIND --seed S --count N [--first I] [--only I] > requests
     writes the N random requests, with --first 0 the fixed set before them, with --only
     just the I-th, all counted from 0
+second select KIND --seed S --count N --each K --most B > requests
+    writes the fixed set and, of the N random requests that are no larger than about B
+    bytes, K for each cause
 second expect < requests > answers
 second replay < requests > answers
     answers requests as this program does
@@ -35,11 +39,14 @@ struct Options {
     count: u64,
     first: Option<u64>,
     only: Option<u64>,
+    each: u64,
+    most: u64,
     command: Vec<String>,
 }
 
 fn options(arguments: &[String]) -> Result<Options, String> {
-    let mut options = Options { seed: 1, count: 1000, first: None, only: None, command: Vec::new() };
+    let mut options =
+        Options { seed: 1, count: 1000, first: None, only: None, each: 10, most: 1000, command: Vec::new() };
     let mut rest = arguments.iter();
     while let Some(name) = rest.next() {
         if name == "--" {
@@ -53,6 +60,8 @@ fn options(arguments: &[String]) -> Result<Options, String> {
             "--count" => options.count = value,
             "--first" => options.first = Some(value),
             "--only" => options.only = Some(value),
+            "--each" => options.each = value,
+            "--most" => options.most = value,
             _ => return Err(format!("no option {name}")),
         }
     }
@@ -84,6 +93,10 @@ fn command(arguments: &[String]) -> Result<bool, String> {
             let kind = Kind::named(name).ok_or_else(|| format!("no kind {name}\n{USAGE}"))?;
             record(kind, &options(&arguments[2..])?).map(|()| true).map_err(|error| error.to_string())
         }
+        ["select", name, ..] => {
+            let kind = Kind::named(name).ok_or_else(|| format!("no kind {name}\n{USAGE}"))?;
+            selected(kind, &options(&arguments[2..])?).map(|()| true).map_err(|error| error.to_string())
+        }
         ["landings", ..] => landed(&options(&arguments[1..])?),
         [name, ..] => {
             let kind = Kind::named(name).ok_or_else(|| format!("no subcommand {name}\n{USAGE}"))?;
@@ -106,6 +119,9 @@ fn landed(options: &Options) -> Result<bool, String> {
     let requests = (0..).zip(landings::requests(options.seed, options.count));
     let mut tally = Tally::default();
     let good = compare::compare(requests, &options.command, &landings::as_plain, &mut tally)?;
+    if good {
+        println!("{} programs, {} landing lists each: as the plain machine, never 11", options.count, landings::LISTS);
+    }
     tally.print();
     Ok(good)
 }
@@ -118,6 +134,14 @@ fn record(kind: Kind, options: &Options) -> io::Result<()> {
     };
     for index in indices {
         kind.request(options.seed, index).write(&mut output)?;
+    }
+    output.flush()
+}
+
+fn selected(kind: Kind, options: &Options) -> io::Result<()> {
+    let mut output = BufWriter::new(io::stdout().lock());
+    for request in select::selected(kind, options.seed, options.count, options.each, options.most as usize) {
+        request.write(&mut output)?;
     }
     output.flush()
 }

@@ -22,6 +22,11 @@ impl Tally {
         *self.counts.entry(key).or_insert(0) += 1;
     }
 
+    /// Everything counted so far.
+    pub fn keys(&self) -> impl Iterator<Item = &String> {
+        self.counts.keys()
+    }
+
     /// Counts one request under the cause this program sees.
     pub fn request(&mut self, request: &Request) {
         self.calls += 1;

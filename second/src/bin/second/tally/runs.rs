@@ -4,26 +4,37 @@ use super::refusals::refused;
 use super::roles::roles;
 use super::Tally;
 use crate::requests::Run;
-use second::load::{load, Lengths};
+use second::answer::Refusal;
+use second::load::{load, Lengths, IMAGE_SIZE, MOST_MEMORY, ROOM_SIZE};
 use second::program::Instruction;
 use second::run::{at, run, step, Landings, PAUSED, STOPPED};
 use second::state::State;
 use second::values;
 
 pub fn ran(tally: &mut Tally, call: &Run) {
+    tally.count(format!(
+        "memory bytes: {}",
+        class(call.memory.len() as u64, &[0, 16, 256, 4096, 65_535, 65_536, 65_537])
+    ));
+    tally.count(format!("image bytes: {}", class(call.state.len() as u64, &[0, 2883, 2884, 2885])));
+    tally.count(format!("room bytes: {}", class(call.room.len() as u64, &[0, 11, 12, 13])));
     let (mut image, mut memory) = (call.state.clone(), call.memory.clone());
     let outcome = run(&call.table, &call.program, &mut image, &mut memory, &call.landing, call.n, call.room.len());
     let answer = match outcome {
         Ok(answer) => answer,
-        Err(refusal) if matches!(refusal.number, 2 | 10) => return tally.count(refused(refusal, &call.program)),
-        Err(refusal) => return tally.count(format!("{:02} as in load", refusal.number)),
+        Err(refusal) => return turned_away(tally, call, refusal),
     };
     let start = State::from_image(&call.state);
     let in_flight = start.cells.iter().filter(|cell| cell.busy > 0).count();
     tally.count(format!("start: {}", if in_flight > 0 { "results in flight" } else { "quiet" }));
+    let (table, program) = load(&call.table, &call.program, Lengths::of_load(12)).expect("a program that ran");
+    let clusters = table.clusters.len();
+    tally.count(format!("clusters: {clusters}"));
+    if start.cells[64 * clusters..256].iter().any(|cell| cell.busy > 0) {
+        tally.count("start: results in flight outside the table's clusters".to_string());
+    }
     tally.count(format!("n: {}", class(u64::from(call.n), &[0, 1, 2, 40, 2000])));
     tally.count(format!("landing bytes: {}", class(call.landing.len() as u64, &[0, 1, 8, 300])));
-    tally.count(format!("memory bytes: {}", class(call.memory.len() as u64, &[0, 16, 256, 4096, 65_535])));
     match answer.number {
         PAUSED => {
             tally.count("00 paused".to_string());
@@ -34,14 +45,19 @@ pub fn ran(tally: &mut Tally, call: &Run) {
         STOPPED => tally.count(format!("FF stopped after {}", class(u64::from(answer.count), &[0, 10]))),
         number => tally.count(format!("{number} fault after {}", class(u64::from(answer.count), &[0, 10]))),
     }
-    let (table, program) = load(&call.table, &call.program, Lengths::of_load(12)).expect("a program that ran");
     let (mut state, mut memory) = (start, call.memory.clone());
     let mut landings = Landings::new(&call.landing);
+    let mut results = 0;
     for _ in 0..answer.count {
+        results += at(&program, &state).destinations().len();
         for placed in &at(&program, &state).syllables {
             tally.count(format!("executed opcode {:02}", placed.syllable.opcode()));
         }
         let _ = step(&table, &program, &mut state, &mut memory, &mut landings);
+    }
+    tally.count(format!("landing list: {}", used(results, call.landing.len())));
+    if answer.number == STOPPED && state.cells.iter().any(|cell| cell.landing > 0) {
+        tally.count("FF stopped with results on their way".to_string());
     }
     if matches!(answer.number, 11..=14) {
         let fault = step(&table, &program, &mut state, &mut memory, &mut landings).expect_err("the fault again");
@@ -50,6 +66,37 @@ pub fn ran(tally: &mut Tally, call: &Run) {
         if let [role] = busy_roles(at(&program, &state), &state)[..] {
             tally.count(format!("11 only by {role}"));
         }
+    }
+}
+
+/// The number and cause of a refusal; for 2 also which of its four cases held together, for a room that stays unwritten why.
+fn turned_away(tally: &mut Tally, call: &Run, refusal: Refusal) {
+    if refusal.number == 2 {
+        tally.count(refused(refusal, &call.program));
+        let bad_program = refusal.place == 0;
+        let cases = [
+            (bad_program, "program"),
+            (call.memory.len() > MOST_MEMORY, "memory"),
+            (call.state.len() != IMAGE_SIZE, "image"),
+            (call.room.len() != ROOM_SIZE, "room"),
+        ];
+        let broken: Vec<&str> = cases.iter().filter(|(broken, _)| *broken).map(|(_, name)| *name).collect();
+        tally.count(format!("02 place {} of {}", refusal.place, broken.join(", ")));
+    } else {
+        tally.count(format!("{:02} {}", refusal.number, refusal.cause));
+    }
+    if call.room.len() != ROOM_SIZE {
+        tally.count(format!("room not written under {:02}", refusal.number));
+    }
+}
+
+/// How far the landing bytes went for so many results.
+fn used(results: usize, bytes: usize) -> &'static str {
+    match (results, bytes) {
+        (0, _) => "no result",
+        (_, 0) => "empty, every result past its end",
+        _ if results > bytes => "some results past its end",
+        _ => "long enough",
     }
 }
 

@@ -1,0 +1,46 @@
+use borrow.Author.Needs.{needs}
+use Rattle.text.proofs.Puts.{row-put}
+use Rattle.text.proofs.rows.put_row.Statement.{statement}
+use Rattle.text.proofs.rows.put_row.Tie as tie
+
+put-field-requires : tie.Need-put-field-requires
+put-field-requires c κs = search needs
+
+add-put-field : tie.Need-add-put-field
+add-put-field c = search needs
+
+put-field-requires-2 : tie.Need-put-field-requires-2
+put-field-requires-2 c κs = search needs
+
+add-put-field-2 : tie.Need-add-put-field-2
+add-put-field-2 c = search needs
+
+add-put-field-3 : tie.Need-add-put-field-3
+add-put-field-3 c = search needs
+
+put-field-requires-3 : tie.Need-put-field-requires-3
+put-field-requires-3 c κs = search needs
+
+same-length : tie.Need-same-length
+same-length c = search needs
+
+returns : tie.Need-returns
+returns c =
+    let third = c .before .before in
+    let second = third .before .before .before .before in
+    let first = second .before .before .before .before in
+    let a = first .before .before .before .args in
+    rw (third .put-field3 .ensures, second .put-field2 .ensures, first .put-field .ensures) (row-put (a .out .now) (a .at) (a .x) (a .digits) (a .y) (a .z))
+
+pub put-row-spec : {M : Type 1} → statement M
+put-row-spec =
+    tie.close
+    (tie.spec
+    put-field-requires
+    add-put-field
+    put-field-requires-2
+    add-put-field-2
+    add-put-field-3
+    put-field-requires-3
+    same-length
+    returns)

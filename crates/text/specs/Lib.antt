@@ -1,0 +1,6 @@
+pub mod Digits
+pub mod Lines
+pub mod Items
+pub mod Rows
+pub mod Output
+pub mod Promise
