@@ -1,25 +1,25 @@
 -- What an operation does, one law for each arm of the code.
 use mathlib.Core.Path.{_≡_, refl, sym, _∙_}
 use mathlib.Core.Logic.{⊎-elim}
-use mathlib.Core.Bool.{true, false}
+use mathlib.Core.Bool.{Bool, true, false}
 use mathlib.Core.List.{List, [], _∷_, _++_, append-nil}
 use Prim.Native.Nat.{ℕ, _+_, _≤_, _<_}
 use native.Mathlib.Omega.{arith}
 use lib.Dec.{eqb}
 use lib.ListN.{length}
-use borrow.Author.Tests.{eqb-true}
+use borrow.Author.Tests.{eqb-true, eq-eqb, ne-eqb}
 use Rattle.word.specs.Choice.{pick}
 use Rattle.word.specs.Bytes.{numberAt}
 use Rattle.word.proofs.Choice.{by-test}
-use Rattle.ops.specs.Value.{loaded, stored}
+use Rattle.ops.specs.Value.{value, loaded, stored}
 use Rattle.isa.specs.Touch.{dests, wayOf}
 use Rattle.isa.specs.declared.Delays.{Delays}
 use Rattle.memory.specs.Memory.{sizeOf, access, Store, faultBy}
 use Rattle.machine.specs.Instruction.{Fired, isStore, addressOf, valueIn, values, storesOf, faultOf, Next, nextBy}
-use Rattle.gather.specs.Gather.{decided, nextFrom, Formed, isMemory, isControl, destIn, computedOf, valuesBy, Grown, Scratch, Holds, Acts}
+use Rattle.gather.specs.Gather.{decided, nextFrom, Formed, isMemory, isControl, destIn, computedOf, valuesBy, Grown, Scratch, Holds, Acts, Does}
 use Rattle.memory.specs.Held.{storesIn, Stores}
 use Rattle.gather.specs.declared.Seen.{Seen}
-use Rattle.gather.proofs.Opcodes.{within-true, within-false, memory-range, control-no-memory, no-load, no-store, goes-along, memory-goes-along, control-silent}
+use Rattle.gather.proofs.Opcodes.{within-true, within-false, memory-range, plain-class, control-no-memory, no-load, no-store, goes-along, memory-goes-along, control-silent}
 use Rattle.gather.proofs.Growth.{grown-one, grown-silent}
 
 -- of n stores three arrays come to hold k, at most one of them new: those of ss
@@ -47,6 +47,7 @@ module _ {d : Delays} {m : List ℕ} {j : ℕ} {e : Fired} {s : Seen} {a : Scrat
       → Acts d m j e s a (record { busy = s .busy; fault = f; results = s .results; stores = s .stores; way = s .way; place = s .place }) a
   faults f n q t =
       record {
+        busy = refl;
         fault = q;
         next = memory-goes-along e j (s .way) (s .place) t;
         holds = record { results = h .results; stores = h .stores };
@@ -63,6 +64,7 @@ module _ {d : Delays} {m : List ℕ} {j : ℕ} {e : Fired} {s : Seen} {a : Scrat
         → Acts d m j e s a (record { busy = s .busy; fault = s .fault; results = k; stores = l; way = w; place = p }) b
     done n g t =
         record {
+          busy = refl;
           fault = rw q (same-fault (s .fault));
           next = n;
           holds = record { results = g .results; stores = t .stores };
@@ -71,11 +73,27 @@ module _ {d : Delays} {m : List ℕ} {j : ℕ} {e : Fired} {s : Seen} {a : Scrat
           lists = λ _. record { dests = g .dests; values = g .values; stores = t .lists };
         }
 
-  pub computes : {k : ℕ} {gs vs ds : List ℕ} → isMemory (e .op .opcode) ≡ false → isControl (e .op .opcode) ≡ false
+  results-only : {k : ℕ} {gs vs ds : List ℕ} → isMemory (e .op .opcode) ≡ false → isControl (e .op .opcode) ≡ false
       → Grown 2 (a .regs) (a .vals) (a .dels) (s .results) gs vs ds k (dests d (e .op ∷ [])) (valuesBy e (computedOf (e .op .opcode) (e .x) (e .y) (e .z)))
       → Acts d m j e s a (record { busy = s .busy; fault = s .fault; results = k; stores = s .stores; way = s .way; place = s .place })
       (record { regs = gs; vals = vs; dels = ds; ats = a .ats; words = a .words; sizes = a .sizes })
-  computes t u g = done (rw t) (goes-along e j (s .way) (s .place) u) (rw (no-load e t) g) (laid-none m e (no-store e t) (h .stores))
+  results-only t u g = done (rw t) (goes-along e j (s .way) (s .place) u) (rw (no-load e t) g) (laid-none m e (no-store e t) (h .stores))
+
+  pub computes : {k : ℕ} {gs vs ds : List ℕ} → 0 < e .op .opcode → e .op .opcode ≤ 51
+      → Grown 2 (a .regs) (a .vals) (a .dels) (s .results) gs vs ds k (dests d (e .op ∷ [])) (valuesBy e (value (e .op .opcode) (e .x) (e .y) (e .z)))
+      → Acts d m j e s a (record { busy = s .busy; fault = s .fault; results = k; stores = s .stores; way = s .way; place = s .place })
+      (record { regs = gs; vals = vs; dels = ds; ats = a .ats; words = a .words; sizes = a .sizes })
+  computes p q g =
+      let (t, u) = plain-class (e .op .opcode) p (omega arith) (λ x. omega arith) in
+      results-only t u (rw (ne-eqb (e .op .opcode) 60 (λ z. omega arith)) g)
+
+  pub copies : {k : ℕ} {gs vs ds : List ℕ} → Formed (e .op) → e .op .opcode ≡ 60
+      → Grown 1 (a .regs) (a .vals) (a .dels) (s .results) gs vs ds k (destIn d (e .op .opcode) (e .op .t1) []) (valueIn (e .op .t1) (e .x) [])
+      → Acts d m j e s a (record { busy = s .busy; fault = s .fault; results = k; stores = s .stores; way = s .way; place = s .place })
+      (record { regs = gs; vals = vs; dels = ds; ats = a .ats; words = a .words; sizes = a .sizes })
+  copies f q g =
+      let (t, u) = plain-class (e .op .opcode) (omega arith) (omega arith) (λ x. omega arith) in
+      results-only t u (rw (eq-eqb (e .op .opcode) 60 q) (grown-one d e _ g (f .single (omega arith))))
 
   pub turns : {w p : ℕ} → Formed (e .op) → isControl (e .op .opcode) ≡ true
       → ((n : Next) → decided w p n ≡ decided (s .way) (s .place) (nextBy (wayOf (e .op)) (e .z) j n))
@@ -110,3 +128,21 @@ module _ {d : Delays} {m : List ℕ} {j : ℕ} {e : Fired} {s : Seen} {a : Scrat
         done (sym (own-fault m e n p size to t refl) ∙ q) (memory-goes-along e j (s .way) (s .place) t)
         (grown-silent d e _ (f .silent u (λ z. omega arith)) (f .single (r .0)) (h .results))
         (rw (within-true 57 59 c u (r .1), ← size, ← to) (record { stores = g; few = omega arith; lists = l }))
+
+-- ---- in flight or not
+
+module _ {late : Bool} {d : Delays} {m : List ℕ} {j : ℕ} {e : Fired} {s : Seen} {a : Scratch} where
+  pub held-back : {r : Seen} → late ≡ true → Holds (length m) s a
+      → r ≡ record { busy = 1; fault = s .fault; results = s .results; stores = s .stores; way = s .way; place = s .place } → Does late d m j e s a r a
+  held-back l h q =
+      rw q
+      record {
+        busy = rw l;
+        holds = record { results = h .results; stores = h .stores };
+        few = omega arith;
+        fewer = omega arith;
+        acts = λ z. absurd (omega arith);
+      }
+
+  pub goes-ahead : {r : Seen} {b : Scratch} → late ≡ false → Acts d m j e s a r b → Does late d m j e s a r b
+  goes-ahead l h = record { busy = rw l (h .busy); holds = h .holds; few = h .few; fewer = h .fewer; acts = λ z. h }

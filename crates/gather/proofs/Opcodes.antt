@@ -1,16 +1,16 @@
 -- What the class of an opcode says of its operation, and what decoding gives.
 use mathlib.Core.Path.{_≡_, refl}
 use mathlib.Core.Logic.{_⊎_, inl, inr, ⊎-elim}
-use mathlib.Core.Bool.{Bool, true, false, _||_, _&&_}
+use mathlib.Core.Bool.{true, false, _&&_}
 use mathlib.Core.List.{[], _∷_}
 use Prim.Native.Nat.{ℕ, zero, suc, _≤_, _<_}
 use native.Mathlib.Omega.{arith}
 use lib.Dec.{eqb, ltb, leb}
-use borrow.Author.Tests.{eqb-true, ltb-true, ltb-false, leb-true, ne-eqb, le-ltb, le-leb}
-use Rattle.word.specs.Choice.{pick}
-use Rattle.word.proofs.Choice.{is-false, never-both, or-true, or-false, and-true}
+use borrow.Author.Tests.{eqb-true, ltb-true, ltb-false, leb-true, ne-eqb, lt-ltb, le-ltb, le-leb}
+use Rattle.word.proofs.Choice.{is-false, never-both, or-true, or-false, or-right, and-true}
 use Rattle.isa.specs.Syllable.{opcode, formatOf}
 use Rattle.isa.specs.Decode.{decodeAs, decode}
+use Rattle.isa.specs.declared.Op.{Op}
 use Rattle.isa.specs.declared.Format.{Format}
 use Rattle.isa.specs.declared.Format.the-variants.{Still, Two, One, Carry, Test, Select, Load, Store, Copy, Goto, Fork}
 use Rattle.isa.proofs.Formats.{Among, format-among}
@@ -19,10 +19,6 @@ use Rattle.machine.specs.Instruction.{Fired, isLoad, isStore, Next}
 use Rattle.gather.specs.Gather.{isMemory, isControl, nextFrom, decided, Formed}
 
 -- ---- tests
-
-pub pick-or : {A : Type 0} (s t : Bool) (x y : A) → pick (s || t) x y ≡ pick s x (pick t x y)
-pick-or true t x y = refl
-pick-or false t x y = refl
 
 module _ (a b c : ℕ) where
   within-range : leb a c && leb c b ≡ true → (a ≤ c) × (c ≤ b)
@@ -46,6 +42,16 @@ module _ (c : ℕ) where
 
   control-range : isControl c ≡ true → (c ≡ 0) ⊎ (60 < c)
   control-range e = ⊎-elim (λ p. inl (eqb-true c 0 p)) (λ p. inr (ltb-true 60 c p)) (or-true (eqb c 0) (ltb 60 c) e)
+
+  -- neither memory nor control
+  pub plain-class : 0 < c → c ≤ 60 → (52 ≤ c → c ≤ 59 → ⊥) → (isMemory c ≡ false) × (isControl c ≡ false)
+  plain-class p q n = (within-false 52 59 c n, rw (ne-eqb c 0 (λ z. omega arith), le-ltb 60 c q))
+
+  pub control-first : c ≡ 0 → isControl c ≡ true
+  control-first z = rw z
+
+  pub control-last : 60 < c → isControl c ≡ true
+  control-last h = or-right (eqb c 0) (lt-ltb 60 c h)
 
   pub control-past : isControl c ≡ true → (c ≡ 0 → ⊥) → 60 < c
   control-past e n = ltb-true 60 c (rw (ne-eqb c 0 n) at e)
@@ -117,3 +123,10 @@ module _ (c s : ℕ) (h : c < 4) where
         single = rw (d .code) single;
         silent = rw (d .code) silent;
       }
+
+module _ {o : Op} (c s : ℕ) (h : c < 4) (e : o ≡ decode c s) where
+  pub formed-as : Formed o
+  formed-as = rw e (formed c s h)
+
+  pub code-as : o .opcode ≡ opcode s
+  code-as = rw e (decoded c s h .code)

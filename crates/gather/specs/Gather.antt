@@ -19,7 +19,7 @@ use Rattle.memory.specs.Memory.{Store}
 use Rattle.memory.specs.Held.{storesIn, Stores}
 use Rattle.machine.specs.Instruction.{Fired, fire, valueIn, values, storesOf, faultOf, Next, nextBy, stops}
 use Rattle.machine.specs.Instruction.{at as goesTo}
-use Rattle.ticks.specs.Ticks.{valueAt, destsIn, valuesIn, Results}
+use Rattle.ticks.specs.Ticks.{destsIn, valuesIn, Results}
 use Rattle.gather.specs.declared.Seen.{Seen}
 
 -- an operation reads or writes a register in flight
@@ -69,19 +69,19 @@ isMemory opcode = leb 52 opcode && leb opcode 59
 abbrev pub isControl : ℕ → Bool
 isControl opcode = eqb opcode 0 || ltb 60 opcode
 
--- `opBusy` and `fire`, by the loop's registers at tick t
+-- `opBusy` by the loop's registers at tick t, and `fire` of an operation with none in flight
 abbrev pub opLate : ℕ → List ℕ → Op → Bool
 opLate t rs o =
     ltb t (getD rs (o .s1) 0) || ltb t (getD rs (o .s2) 0) || ltb t (getD rs (o .s3) 0)
     || ltb t (getD rs (o .t1) 0) || ltb t (getD rs (o .t2) 0)
 
-abbrev pub fireAt : ℕ → List ℕ → List ℕ → List ℕ → Op → Fired
-fireAt t vs os ls o =
+abbrev pub fireAt : List ℕ → Op → Fired
+fireAt vs o =
     record {
       op = o;
-      x = valueAt t vs os ls (o .s1);
-      y = pick (eqb (o .s2) 0) (o .number) (valueAt t vs os ls (o .s2));
-      z = valueAt t vs os ls (o .s3);
+      x = getD vs (o .s1) 0;
+      y = pick (eqb (o .s2) 0) (o .number) (getD vs (o .s2) 0);
+      z = getD vs (o .s3) 0;
     }
 
 -- ---- one operation
@@ -130,6 +130,7 @@ pub record Lists (ds : List Dest) (vs : List ℕ) (ss : List Store) (s : Seen) (
 
 -- from s to r the operation is done, all but its busy registers; after a fault nothing is said of the lists
 pub record Acts (d : Delays) (m : List ℕ) (j : ℕ) (e : Fired) (s : Seen) (a : Scratch) (r : Seen) (b : Scratch) : Type 0 where
+  pub busy : r .busy ≡ s .busy
   pub fault : r .fault ≡ pick (eqb (s .fault) 0) (faultOf (length m) (e ∷ [])) (s .fault)
   pub next : (k : Next) → decided (r .way) (r .place) k ≡ decided (s .way) (s .place) (nextFrom j (e ∷ []) k)
   pub holds : Holds (length m) r b
@@ -138,16 +139,29 @@ pub record Acts (d : Delays) (m : List ℕ) (j : ℕ) (e : Fired) (s : Seen) (a 
   pub lists : r .fault ≡ 0
       → Lists (destsIn (a .regs) (a .dels) (s .results) ++ dests d (e .op ∷ [])) (valuesIn (a .vals) (s .results) ++ values m (e ∷ [])) (storesIn (a .ats) (a .words) (a .sizes) (s .stores) ++ storesOf (e ∷ [])) r b
 
+-- the same, if it is not late; where a register was in flight no more is said than what there is room for
+pub record Does (late : Bool) (d : Delays) (m : List ℕ) (j : ℕ) (e : Fired) (s : Seen) (a : Scratch) (r : Seen) (b : Scratch) : Type 0 where
+  pub busy : r .busy ≡ pick late 1 (s .busy)
+  pub holds : Holds (length m) r b
+  pub few : r .results ≤ s .results + 2
+  pub fewer : r .stores ≤ s .stores + 1
+  pub acts : r .busy ≡ 0 → Acts d m j e s a r b
+
 -- ---- the operations so far
 
 abbrev pub fired : Registers → List Op → List Fired
 fired l os = map (fire (map (λ (c : Cell). c .value) l)) os
 
-pub record Kept (d : Delays) (l : Registers) (m : List ℕ) (j : ℕ) (os : List Op) (s : Seen) (a : Scratch) : Type 0 where
-  pub busy : s .busy ≡ bit (any (opBusy l) os)
-  pub fault : s .fault ≡ faultOf (length m) (fired l os)
-  pub next : (k : Next) → nextFrom j (fired l os) k ≡ decided (s .way) (s .place) k
+-- what they came to, fired as es
+pub record Came (d : Delays) (m : List ℕ) (j : ℕ) (os : List Op) (es : List Fired) (s : Seen) (a : Scratch) : Type 0 where
+  pub fault : s .fault ≡ faultOf (length m) es
+  pub next : (k : Next) → nextFrom j es k ≡ decided (s .way) (s .place) k
+  pub lists : s .fault ≡ 0 → Lists (dests d os) (values m es) (storesOf es) s a
+
+-- which is told only if none is late
+pub record Kept (late : Op → Bool) (firing : Op → Fired) (d : Delays) (m : List ℕ) (j : ℕ) (os : List Op) (s : Seen) (a : Scratch) : Type 0 where
+  pub busy : s .busy ≡ bit (any late os)
   pub holds : Holds (length m) s a
   pub few : s .results ≤ 2 * length os
   pub fewer : s .stores ≤ length os
-  pub lists : s .fault ≡ 0 → Lists (dests d os) (values m (fired l os)) (storesOf (fired l os)) s a
+  pub came : s .busy ≡ 0 → Came d m j os (map firing os) s a

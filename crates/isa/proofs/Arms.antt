@@ -1,11 +1,13 @@
--- An arm of a `match` on the form makes the form's line of the definition: of `strayAs` by `tests`, of `decodeAs` by `fields`.
+-- Where the form is known, the code makes the form's line of the definition: of `strayAs` by `tests`, of `decodeAs` by `fields`.
 use mathlib.Core.Path.{_≡_, _∙_}
 use mathlib.Core.Bool.{Bool}
 use Prim.Native.Nat.{ℕ}
 use Rattle.isa.specs.Zero.{strayAs}
-use Rattle.isa.specs.Decode.{general, twoTo, decodeAs}
+use Rattle.isa.specs.Syllable.{opcode}
+use Rattle.isa.specs.Decode.{general, twoTo, decodeAs, decode}
 use Rattle.isa.specs.declared.Op.{Op}
 use Rattle.isa.specs.declared.Format.{Format}
+use Rattle.isa.proofs.Formats.{Among, format-of}
 use Rattle.isa.proofs.Steps.{steps, joins}
 
 pub stray-line : (s : ℕ) (f g : Format) (r : Bool) → f ≡ g → r ≡ strayAs g s → r ≡ strayAs f s
@@ -13,8 +15,9 @@ stray-line s f g r e h = rw e h
 
 pub ruleset tests = (stray-line, joins)
 
-pub decode-line : (c s : ℕ) (f g : Format) (r : Op) → f ≡ g → r ≡ decodeAs c s g → r ≡ decodeAs c s f
-decode-line c s f g r e h = rw e h
+pub as-form : (c s : ℕ) (f : Format) (r : Op) → Among f (opcode s) → r ≡ decodeAs c s f → r ≡ decode c s
+unfolding decode
+as-form c s f r a h = rw (format-of f (opcode s) a) h
 
 abbrev op : ℕ → ℕ → ℕ → ℕ → ℕ → ℕ → ℕ → Op
 op o x y z n d e = record { opcode = o; s1 = x; s2 = y; s3 = z; number = n; t1 = d; t2 = e }
@@ -31,4 +34,4 @@ from-cluster c c′ x r h e = rw (← e) h
 pub into : (c s t t′ : ℕ) (r : Op) → r ≡ twoTo c s t′ → t′ ≡ t → r ≡ twoTo c s t
 into c s t t′ r h e = rw (← e) h
 
-pub ruleset fields = (decode-line, made, from-cluster, into, steps)
+pub ruleset fields = (made, from-cluster, into, steps)

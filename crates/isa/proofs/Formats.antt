@@ -1,13 +1,14 @@
 -- The opcodes of each form.
 use mathlib.Core.Path.{_≡_, refl}
 use mathlib.Core.Bool.{Bool, true, false}
-use mathlib.Core.Logic.{_⊎_, inl, inr}
+use mathlib.Core.Logic.{_⊎_, inl, inr, ⊎-elim}
 use Prim.Native.Nat.{ℕ, _≤_, _<_}
 use native.Mathlib.Omega.{arith}
 use lib.Dec.{eqb, leb}
 use borrow.Author.Tests.{ne-eqb, le-leb, lt-leb, eqb-true, eqb-false, leb-true, leb-false}
 use Rattle.word.specs.Choice.{pick}
-use Rattle.isa.specs.Syllable.{formatOf}
+use Rattle.word.proofs.Choice.{and-true, and-false}
+use Rattle.isa.specs.Syllable.{formatOf, within}
 use Rattle.isa.specs.declared.Format.{Format}
 use Rattle.isa.specs.declared.Format.the-variants.{Still, Two, One, Carry, Test, Select, Load, Store, Copy, Goto, Fork}
 
@@ -24,6 +25,14 @@ Among Store o = (57 ≤ o) × (o ≤ 59)
 Among Copy o = o ≡ 60
 Among Goto o = o ≡ 61
 Among Fork o = 62 ≤ o
+
+pub within-range : (first last o : ℕ) → within first last o ≡ true → (first ≤ o) × (o ≤ last)
+within-range first last o h = let (p, q) = and-true (leb first o) (leb o last) h in (leb-true first o p, leb-true o last q)
+
+-- outside 19 to 23
+pub among-two : (o : ℕ) → 0 < o → o ≤ 39 → within 19 23 o ≡ false → Among Two o
+among-two o p q h =
+    ⊎-elim (λ e. inl (p, omega (arith, leb-false 19 o e))) (λ e. inr (leb-false o 23 e, q)) (and-false (leb 19 o) (leb o 23) h)
 
 -- what a test of `formatOf` says of the opcode, on either way
 module _ (o : ℕ) where

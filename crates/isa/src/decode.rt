@@ -1,14 +1,13 @@
 // What a syllable in cluster c asks for.
 ghost use mathlib.Core.Path.{_≡_};
-ghost use Prim.Native.Nat.{_+_, _≤_, _<_};
-ghost use Rattle.isa.specs.Syllable.{bits};
-ghost use Rattle.isa.specs.Decode.{general, branch, immediate, offset, twoTo, decodeAs, decode};
-use crate::Format;
+ghost use Prim.Native.Nat.{ℕ, _+_, _≤_, _<_};
+ghost use Rattle.isa.specs.Syllable.{bits, opcode};
+ghost use Rattle.isa.specs.Decode.{general, branch, immediate, offset, twoTo, decode};
 use crate::Op;
 use crate::syllable::bits;
-use crate::syllable::format;
 use crate::syllable::holds;
 use crate::syllable::opcode;
+use crate::syllable::within;
 
 // The number of general register r of cluster c: register 0 is one for all clusters.
 fn general(c: u32, r: u32) -> u32
@@ -87,28 +86,104 @@ fn two(c: u32, s: u32, t1: u32) -> Op
     }
 }
 
-// The fields of a form: t is the first destination, or what a store reads.
-fn decode_as(c: u32, s: u32, f: Format) -> Op
-    requires { ⌜ c < 4 ⌝ }
-    ensures { λ r. ⌜ r ≡ decodeAs c s f ⌝ }
+// Opcodes 19 to 23: one operand, or a sum with its carry.
+fn narrow(c: u32, s: u32) -> Op
+    requires { ⌜ (c < 4) × (19 ≤ opcode s) × (opcode s ≤ 23) ⌝ }
+    ensures { λ r. ⌜ r ≡ decode c s ⌝ }
 {
     let o = opcode(s);
     let t = general_at(c, s, 18);
     let s1 = general_at(c, s, 12);
-    let s2 = general_at(c, s, 0);
-    let b = branch_at(c, s, 9);
-    match f {
-        Format::Still => make(o, 0, 0, 0, bits(s, 23, 18), 0, 0),
-        Format::Two => two(c, s, t),
-        Format::One => make(o, s1, 0, 0, 0, t, 0),
-        Format::Carry => make(o, s1, s2, b, 0, t, branch_at(c, s, 6)),
-        Format::Test => two(c, s, branch_at(c, s, 18)),
-        Format::Select => make(o, s1, s2, b, 0, t, 0),
-        Format::Load => make(o, s1, 0, 0, offset(s), t, 0),
-        Format::Store => make(o, s1, 0, t, offset(s), 0, 0),
-        Format::Copy => make(o, general_at(bits(s, 1, 0), s, 12), 0, 0, 0, t, 0),
-        Format::Goto => make(o, 0, 0, 0, bits(s, 23, 0), 0, 0),
-        Format::Fork => make(o, 0, 0, branch_at(c, s, 21), bits(s, 20, 0), 0, 0),
+    if o == 23 {
+        make(
+            o,
+            s1,
+            general_at(c, s, 0),
+            branch_at(c, s, 9),
+            0,
+            t,
+            branch_at(c, s, 6),
+        )
+    } else {
+        make(o, s1, 0, 0, 0, t, 0)
+    }
+}
+
+// Opcodes 1 to 51: what computes. The forms with s2 as a register or a number stand together, since most operations have them.
+pub fn compute(c: u32, s: u32) -> Op
+    requires { ⌜ (c < 4) × (0 < opcode s) × (opcode s ≤ 51) ⌝ }
+    ensures { λ r. ⌜ r ≡ decode c s ⌝ }
+{
+    let o = opcode(s);
+    if within(19, 23, s) {
+        return narrow(c, s);
+    }
+    if o <= 39 {
+        return two(c, s, general_at(c, s, 18));
+    }
+    if o <= 49 {
+        return two(c, s, branch_at(c, s, 18));
+    }
+    make(
+        o,
+        general_at(c, s, 12),
+        general_at(c, s, 0),
+        branch_at(c, s, 9),
+        0,
+        general_at(c, s, 18),
+        0,
+    )
+}
+
+// Opcodes 52 to 59: loads and stores. A store reads the register that a load writes.
+pub fn access(c: u32, s: u32) -> Op
+    requires { ⌜ (c < 4) × (52 ≤ opcode s) × (opcode s ≤ 59) ⌝ }
+    ensures { λ r. ⌜ r ≡ decode c s ⌝ }
+{
+    let o = opcode(s);
+    let t = general_at(c, s, 18);
+    let s1 = general_at(c, s, 12);
+    if o <= 56 {
+        make(o, s1, 0, 0, offset(s), t, 0)
+    } else {
+        make(o, s1, 0, t, offset(s), 0, 0)
+    }
+}
+
+// Opcode 60.
+pub fn copy(c: u32, s: u32) -> Op
+    requires { ⌜ (c < 4) × (opcode s ≡ 60) ⌝ }
+    ensures { λ r. ⌜ r ≡ decode c s ⌝ }
+{
+    make(
+        opcode(s),
+        general_at(bits(s, 1, 0), s, 12),
+        0,
+        0,
+        0,
+        general_at(c, s, 18),
+        0,
+    )
+}
+
+// Opcode 0.
+pub fn still(s: u32) -> Op
+    requires { ⌜ opcode s ≡ 0 ⌝ }
+    ensures { λ r. ⌜ ((c : ℕ) → r ≡ decode c s) ⌝ }
+{
+    make(opcode(s), 0, 0, 0, bits(s, 23, 18), 0, 0)
+}
+
+// Opcodes 61 to 63.
+pub fn jump(c: u32, s: u32) -> Op
+    requires { ⌜ (c < 4) × (61 ≤ opcode s) ⌝ }
+    ensures { λ r. ⌜ r ≡ decode c s ⌝ }
+{
+    let o = opcode(s);
+    if o <= 61 {
+        make(o, 0, 0, 0, bits(s, 23, 0), 0, 0)
+    } else {
+        make(o, 0, 0, branch_at(c, s, 21), bits(s, 20, 0), 0, 0)
     }
 }
 
@@ -116,5 +191,18 @@ pub fn decode(c: u32, s: u32) -> Op
     requires { ⌜ c < 4 ⌝ }
     ensures { λ r. ⌜ r ≡ decode c s ⌝ }
 {
-    decode_as(c, s, format(opcode(s)))
+    let o = opcode(s);
+    if o == 0 {
+        return still(s);
+    }
+    if o <= 51 {
+        return compute(c, s);
+    }
+    if o <= 59 {
+        return access(c, s);
+    }
+    if o <= 60 {
+        return copy(c, s);
+    }
+    jump(c, s)
 }

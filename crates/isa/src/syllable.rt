@@ -84,7 +84,7 @@ pub fn format(o: u32) -> Format
 }
 
 // Whether the opcode is one of first..last.
-fn within(first: u32, last: u32, s: u32) -> bool
+pub fn within(first: u32, last: u32, s: u32) -> bool
     ensures { λ r. ⌜ r ≡ within first last (opcode s) ⌝ }
 {
     let o = opcode(s);

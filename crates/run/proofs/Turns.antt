@@ -32,15 +32,16 @@ use Rattle.loader.specs.Passed.{Passed}
 use Rattle.loader.proofs.Taken.{in-cluster, short}
 use Rattle.loader.proofs.Walks.{part-instruction}
 use Rattle.memory.specs.Memory.{Store, store, anyShare}
-use Rattle.machine.specs.Instruction.{Fired, values, storesOf, faultOf, Next, stops, acts, instructionOf}
+use Rattle.machine.specs.Instruction.{Fired, fire, values, storesOf, faultOf, Next, stops, acts, instructionOf}
 use Rattle.machine.specs.Instruction.{at as goesTo}
 use Rattle.ticks.specs.Ticks.{views, Bank, destsIn, valuesIn, Results}
-use Rattle.gather.specs.Gather.{opBusy, nextFrom, decided, Own, Scratch, Lists, fired, Kept}
+use Rattle.gather.specs.Gather.{opBusy, nextFrom, decided, Own, opLate, fireAt, Scratch, Lists, fired, Came, Kept}
 use Rattle.memory.specs.Held.{storesIn, Stores}
 use Rattle.run.specs.Turn.{stateAt, endedBy, turned, Runs, Running, Room, Turned}
 use Rattle.gather.specs.declared.Seen.{Seen}
 use Rattle.machine.proofs.Phases.{faultOf-is}
 use Rattle.gather.proofs.OnePass.{next-from}
+use Rattle.gather.proofs.Passes.{bit-off, kept-views}
 use Rattle.run.proofs.Steps.{step-busy, step-stop, step-fault, step-shared, step-go}
 use Rattle.machine.proofs.Instance.{loaded-machine}
 use Rattle.memory.proofs.Accesses.{stores-none}
@@ -89,13 +90,14 @@ own-part l i j on s e =
 
 -- ---- the pass over it
 
-module _ {d : Delays} {l : Registers} {m : List ℕ} {s : Seen} {a : Scratch} where
-  pub gathered : (bytes : List ℕ) (i j : ℕ) → isStart (words bytes) i ≡ true → j ≡ following (words bytes) i
-      → Kept d l m j (map operation (spots (words (take (j * 4 - i * 4) (drop (i * 4) bytes))))) s a
-      → Kept d l m (following (words bytes) i) (operationsAt (words bytes) i) s a
-  gathered bytes i j h e k = rw (part-instruction bytes i j h e, e) at k
+module _ {d : Delays} {m : List ℕ} {s : Seen} {a : Scratch} where
+  pub gathered : {t : ℕ} {vs os rs ls : List ℕ} (bytes : List ℕ) (i j : ℕ) → Runs d (words bytes) → Running t (words bytes) i vs os rs ls → j ≡ following (words bytes) i
+      → Kept (opLate t rs) (fireAt vs) d m j (map operation (spots (words (take (j * 4 - i * 4) (drop (i * 4) bytes))))) s a
+      → Kept (opBusy (views t vs os rs ls)) (fire (map (λ (c : Cell). c .value) (views t vs os rs ls))) d m (following (words bytes) i) (operationsAt (words bytes) i) s a
+  gathered bytes i j on here e k =
+      rw (part-instruction bytes i j (here .start) e, e) at (kept-views (here .bank) (own-part bytes i j on (here .start) e) k)
 
-  pub room-left : {j : ℕ} {os : List Op} → Kept d l m j os s a → Room (a .regs) (a .vals) (a .dels) (a .ats) (a .words) (a .sizes)
+  pub room-left : {late : Op → Bool} {firing : Op → Fired} {j : ℕ} {os : List Op} → Kept late firing d m j os s a → Room (a .regs) (a .vals) (a .dels) (a .ats) (a .words) (a .sizes)
   room-left k =
       let g = k .holds .results in
       let t = k .holds .stores in
@@ -143,10 +145,6 @@ bit-on : (b : Bool) → bit b ≢ 0 → b ≡ true
 bit-on true h = refl
 bit-on false h = absurd (h refl)
 
-bit-off : (b : Bool) → bit b ≡ 0 → b ≡ false
-bit-off true h = absurd (omega arith)
-bit-off false h = refl
-
 decided-stops : (w q : ℕ) (x : Next) → 1 < w → decided w q x ≡ stops
 decided-stops zero q x h = absurd (omega arith)
 decided-stops (suc zero) q x h = absurd (omega arith)
@@ -162,7 +160,7 @@ turned-off zero a b h = absurd (h refl)
 turned-off (suc n) a b h = refl
 
 module _ {d : Delays} {p : List ℕ} {t : ℕ} {place : Place} {vs os rs ls m : List ℕ} {s : Seen} {a : Scratch} (runs : Runs d p) (here : Running t p (place .0) vs os rs ls)
-    (k : Kept d (views t vs os rs ls) m (following p (place .0)) (operationsAt p (place .0)) s a) (landing : List ℕ) (used : ℕ) where
+    (k : Kept (opBusy (views t vs os rs ls)) (fire (map (λ (c : Cell). c .value) (views t vs os rs ls))) d m (following p (place .0)) (operationsAt p (place .0)) s a) (landing : List ℕ) (used : ℕ) where
   abbrev i : ℕ
   i = place .0
 
@@ -193,19 +191,22 @@ module _ {d : Delays} {p : List ℕ} {t : ℕ} {place : Place} {vs os rs ls m : 
   turn-busy h = ended 11 (omega arith) (omega arith) (step-busy d p i l m (drop used landing) (here .idle) (bit-on _ (λ e. h (k .busy ∙ e))))
 
   module _ (free : s .busy ≡ 0) where
+    came : Came d m (following p i) (operationsAt p i) es s a
+    came = k .came free
+
     unused : any (opBusy l) (operationsAt p i) ≡ false
     unused = bit-off _ (sym (k .busy) ∙ free)
 
     pub turn-stop : 1 < s .way → Halted 255
     turn-stop h =
         ended 255 (omega arith) (omega arith)
-        (step-stop d p i l m (drop used landing) (here .idle) unused (k .next (goesTo (following p i)) ∙ decided-stops (s .way) (s .place) _ h))
+        (step-stop d p i l m (drop used landing) (here .idle) unused (came .next (goesTo (following p i)) ∙ decided-stops (s .way) (s .place) _ h))
 
     module _ (way : s .way ≤ 1) where
       fault-ends : faultOf (length m) es ≢ 0 → step store (instructionOf d p) from ≡ ends (faultOf (length m) es) (endedBy (faultOf (length m) es) from)
       fault-ends =
           let (j, e) = decided-goes (s .way) (s .place) (following p i) way in
-          let go = step-fault d p i l m (drop used landing) (here .idle) unused j (k .next (goesTo (following p i)) ∙ e) in
+          let go = step-fault d p i l m (drop used landing) (here .idle) unused j (came .next (goesTo (following p i)) ∙ e) in
           faultOf-is (λ n. faultOf (length m) es ≡ n → n ≢ 0 → step store (instructionOf d p) from ≡ ends n (endedBy n from))
           (λ q h. absurd (h refl))
           (λ q h. go 11 q)
@@ -214,11 +215,11 @@ module _ {d : Delays} {p : List ℕ} {t : ℕ} {place : Place} {vs os rs ls m : 
 
       pub turn-fault : s .fault ≢ 0 → Halted (s .fault)
       turn-fault h =
-          ended (s .fault) h (rw (k .fault) (faultOf-is (λ n. n < 256) (omega arith) (omega arith) (omega arith) (length m) es)) (rw (k .fault) (fault-ends (λ e. h (k .fault ∙ e))))
+          ended (s .fault) h (rw (came .fault) (faultOf-is (λ n. n < 256) (omega arith) (omega arith) (omega arith) (length m) es)) (rw (came .fault) (fault-ends (λ e. h (came .fault ∙ e))))
 
       module _ (good : s .fault ≡ 0) where
         lists : Lists (dests d (operationsAt p i)) (values m es) (storesOf es) s a
-        lists = k .lists good
+        lists = came .lists good
 
         abbrev held : List Store
         held = storesIn (a .ats) (a .words) (a .sizes) (s .stores)
@@ -227,7 +228,7 @@ module _ {d : Delays} {p : List ℕ} {t : ℕ} {place : Place} {vs os rs ls m : 
         turn-shared h =
             let (j, e) = decided-goes (s .way) (s .place) (following p i) way in
             ended 14 (omega arith) (omega arith)
-            (step-shared d p i l m (drop used landing) (here .idle) unused j (k .next (goesTo (following p i)) ∙ e) (sym (k .fault) ∙ good) (rw (← lists .stores) h))
+            (step-shared d p i l m (drop used landing) (here .idle) unused j (came .next (goesTo (following p i)) ∙ e) (sym (came .fault) ∙ good) (rw (← lists .stores) h))
 
         -- everything is written
         module _ (apart : anyShare held ≡ false) (to : Place) (goal : decided (s .way) (s .place) (goesTo (following p i)) ≡ goesTo (to .0))
@@ -236,10 +237,10 @@ module _ {d : Delays} {p : List ℕ} {t : ℕ} {place : Place} {vs os rs ls m : 
             ≡ puts (writes (destsIn (a .regs) (a .dels) (s .results)) (valuesIn (a .vals) (s .results)) (drop used landing)) (views (t + 1) vs os rs ls))
             (m′ : List ℕ) (stored : m′ ≡ stores store held m) where
           went : nextFrom (following p i) es (goesTo (following p i)) ≡ goesTo (to .0)
-          went = k .next (goesTo (following p i)) ∙ goal
+          went = came .next (goesTo (following p i)) ∙ goal
 
           faultless : faultOf (length m) es ≡ 0
-          faultless = sym (k .fault) ∙ good
+          faultless = sym (came .fault) ∙ good
 
           unshared : anyShare (storesOf es) ≡ false
           unshared = rw (← lists .stores) apart

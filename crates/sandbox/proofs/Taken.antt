@@ -5,10 +5,9 @@ use mathlib.Core.Bool.{false}
 use mathlib.Core.List.{List}
 use Prim.Native.Nat.{ℕ, _≤_}
 use native.Mathlib.Omega.{arith}
-use lib.Dec.{eqb}
 use native.Mathlib.Nat.{eq-or-lt-of-le}
 use lib.ListN.{length}
-use borrow.Author.Tests.{eqb-true, eq-eqb, le-ltb}
+use borrow.Author.Tests.{eq-eqb, le-ltb}
 use Rattle.word.specs.Bytes.{words}
 use Rattle.word.proofs.Choice.{by-test}
 use Rattle.vliw.specs.Run.{Ran}

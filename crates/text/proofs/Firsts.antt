@@ -1,18 +1,18 @@
 -- The first line of a text begins with what the code finds at its start: an item, and what follows it.
 use mathlib.Core.Path.{_≡_, refl, sym, ap, _∙_}
-use mathlib.Core.Logic.{_⊎_, inl, inr, ⊎-elim}
+use mathlib.Core.Logic.{_⊎_, ⊎-elim}
 use mathlib.Core.Bool.{Bool, true, false, _&&_}
 use mathlib.Core.List.{List, [], _∷_, _++_, map}
-use Prim.Native.Nat.{ℕ, zero, suc, _+_, _*_, _≤_, _<_}
+use Prim.Native.Nat.{ℕ, zero, suc, _+_, _*_}
 use native.Mathlib.Omega.{arith}
 use lib.Dec.{eqb, ltb}
-use lib.ListN.{length, getD, take, drop}
-use borrow.Author.Tests.{eqb-true, eqb-false, eq-eqb, ne-eqb, lt-ltb, le-ltb, ltb-true, ltb-false}
+use lib.ListN.{length, drop}
+use borrow.Author.Tests.{eqb-true, eq-eqb, ne-eqb, lt-ltb, le-ltb, ltb-true}
 use Rattle.word.specs.Choice.{pick}
-use Rattle.word.proofs.Choice.{by-test, never-both, bool-same}
+use Rattle.word.proofs.Choice.{by-test, bool-same}
 use Rattle.text.specs.Digits.{isDigit, digitOf, numberFrom, numberOf}
-use Rattle.text.specs.Lines.{newline, blank, cut, pieces, every, isNumber, areItems, itemsOf, Line, Broken, Holds, firstLine}
-use Rattle.text.specs.Items.{followed, itemFrom, itemAt}
+use Rattle.text.specs.Lines.{newline, blank, pieces, every, isNumber, areItems, itemsOf, Line, Broken, Holds, firstLine}
+use Rattle.text.specs.Items.{itemFrom, itemAt}
 use Rattle.text.specs.declared.items.Item.{Item}
 use Rattle.text.specs.declared.items.Item.the-variants.{Bad, Inner, Last}
 use Rattle.text.proofs.Digits.{is-digit}

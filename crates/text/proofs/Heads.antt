@@ -5,7 +5,7 @@ use Prim.Native.Nat.{ℕ, _+_}
 use lib.ListN.{drop}
 use lib.Seq.{drop-drop}
 use Rattle.text.specs.Lines as lines
-use Rattle.text.specs.Lines.{newline, pieces, Line, Broken, Holds, firstLine, programFrom, fromProgram, fromThird, fromSecond, Read}
+use Rattle.text.specs.Lines.{newline, pieces, Line, Broken, Holds, firstLine, programFrom, fromProgram, fromThird, fromSecond}
 use Rattle.text.specs.Items.{itemAt}
 use Rattle.text.specs.declared.items.Item.{Item}
 use Rattle.text.specs.declared.items.Item.the-variants.{Bad, Inner, Last}

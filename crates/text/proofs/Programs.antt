@@ -1,18 +1,16 @@
 -- A program's lines, read syllable by syllable.
 use mathlib.Core.Path.{_≡_, refl, sym, ap, _∙_}
-use mathlib.Core.Logic.{⊎-elim}
-use mathlib.Core.Bool.{Bool, true, false, not, _&&_, _||_}
+use mathlib.Core.Bool.{Bool, true, false, _&&_, _||_}
 use mathlib.Core.List.{List, [], _∷_, _++_, map, append-assoc, append-nil}
 use Prim.Native.Nat.{ℕ, suc, _+_, _*_, _-_, _≤_, _<_}
 use native.Mathlib.Numerals.{add-one}
 use native.Mathlib.Omega.{arith}
 use lib.Dec.{eqb}
 use lib.ListN.{length, take, drop, length-append, length-drop, drop-of-length-le}
-use lib.Seq.{drop-drop, sets, sets-eq, take-at, length-take-le}
+use lib.Seq.{drop-drop, sets-eq, take-at, length-take-le}
 use borrow.Author.Tests.{eqb-true, eqb-false}
 use Rattle.word.specs.Choice.{pick}
 use Rattle.word.specs.Bytes.{bytes, putWord}
-use Rattle.word.proofs.Choice.{by-test}
 use Rattle.word.specs.declared.Found.the-variants.{At, Nothing}
 use Rattle.isa.specs.Syllable.{ends}
 use Rattle.text.specs.Digits.{numberOf}
@@ -21,7 +19,7 @@ use Rattle.text.specs.Items.{itemAt, judged, syllableAt, putItem, lineAf
 use Rattle.text.specs.declared.items.Item.{Item}
 use Rattle.text.specs.declared.items.Item.the-variants.{Bad, Inner, Last}
 use Rattle.text.proofs.Finding.{inner-long}
-use Rattle.text.proofs.Firsts.{Cut, cut-of, _onto_, after, first-line}
+use Rattle.text.proofs.Firsts.{cut-of, _onto_, after, first-line}
 
 pub before-append : (xs ys : List ℕ) (p : Program) → ((xs ++ ys) before p) ≡ (xs before (ys before p))
 before-append xs ys (BadLine i) = refl

@@ -6,7 +6,7 @@ use native.Mathlib.Numerals.{add-one}
 use native.Mathlib.Omega.{arith}
 use lib.ListN.{length, set, length-append}
 use lib.Seq.{sets, set-comm}
-use borrow.Author.Tests.{eq-eqb, ne-eqb}
+use borrow.Author.Tests.{ne-eqb}
 use Rattle.word.proofs.Bytes.{sets-append}
 use Rattle.vliw.specs.Cell.{landedOf}
 use Rattle.text.specs.Digits.{digit, hex}

@@ -1,5 +1,5 @@
 -- Private to the reading, nobody has to believe it: what the code finds at a place of the text, an item of so many digits, and the blank or the newline after it.
-use mathlib.Core.Bool.{Bool, true, false, _&&_, _||_}
+use mathlib.Core.Bool.{_&&_, _||_}
 use mathlib.Core.List.{List}
 use Prim.Native.Nat.{ℕ, _+_, _*_, _≤_}
 use lib.Dec.{eqb, ltb}

@@ -152,6 +152,10 @@ module _ {vs os rs ls : List ℕ} (z : Sizes 288 vs os rs ls) (t : ℕ) where
     pub view-late : ltb 0 (at (views t vs os rs ls) r .busy) ≡ ltb t (getD rs r 0)
     view-late = rw view-busy (late-of t (getD rs r 0))
 
+-- a register that is not busy has landed: its value is the last result made
+pub made-value : {t : ℕ} {vs os rs ls : List ℕ} → Bank t vs os rs ls → (r : ℕ) → ltb t (getD rs r 0) ≡ false → valueAt t vs os ls r ≡ getD vs r 0
+made-value {t} {vs} {os} {rs} {ls} z r e = rw (le-ltb t (getD ls r 0) (omega (arith, z .low r, ltb-false t (getD rs r 0) e)))
+
 -- ---- a result
 
 module _ {t : ℕ} {vs os rs ls : List ℕ} (z : Bank t vs os rs ls) (r : ℕ) (h : r < 288) (v b l : ℕ) where

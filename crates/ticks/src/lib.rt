@@ -12,8 +12,16 @@ ghost use Rattle.vliw.specs.Machine.{writes};
 ghost use Rattle.machine.specs.State.{cells, registersOf, Sized};
 ghost use Rattle.ticks.specs.Ticks.{Sizes, views, valueAt, waitingAt, Bank, Fit, destsIn, valuesIn, Results};
 
+// The last result made for register r: its value, unless it is in flight.
+pub fn made(value: &[u32; 288], r: u32) -> u32
+    requires { ⌜ r < 288 ⌝ }
+    ensures { λ v. ⌜ v ≡ getD (now (value .entry)) r 0 ⌝ }
+{
+    value[r as usize]
+}
+
 // The value of register r, landed or not.
-pub fn read(value: &[u32; 288], old: &[u32; 288], land: &[u64; 288], r: u32, t: u64) -> u32
+fn read(value: &[u32; 288], old: &[u32; 288], land: &[u64; 288], r: u32, t: u64) -> u32
     requires { ⌜ r < 288 ⌝ }
     ensures { λ v. ⌜ v ≡ valueAt t (now (value .entry)) (now (old .entry)) (now (land .entry)) r ⌝ }
 {

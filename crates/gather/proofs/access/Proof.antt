@@ -28,7 +28,7 @@ returns-2 c =
     let h = c .before .before .before .before .before .before .before in
     let a = h .args in
     let p = h .pre .1 .1 in
-    let e = fireAt (a .t) (a .value .now) (a .old .now) (a .land .now) (a .op) in
+    let e = fireAt (a .value .now) (a .op) in
     let q = own-fault (a .memory .now) e _ _ (c .before .before .size .ensures .0) (c .before .before .before .address .ensures) (p .1 .2) (c .before .fault .ensures .0) in
     λ j. faults (p .0) _ (c .if2 .taken) (rw (eq-eqb _ 0 (c .before .before .before .before .if1 .left)) q) (p .1 .2)
 
@@ -53,8 +53,8 @@ store-requires c κs =
     let z = p .1 .1 .0 .stores in
     (p .0, (z .places, z .values, z .sizes, p .1 .1 .1 .1))
 
-add-t20 : tie.Need-add-t20
-add-t20 c = omega (arith, c .before .before .before .before .before .before .before .before .before .before .before .before .before .before .pre .1 .1 .1 .1)
+add-t17 : tie.Need-add-t17
+add-t17 c = omega (arith, c .before .before .before .before .before .before .before .before .before .before .before .before .before .before .pre .1 .1 .1 .1)
 
 returns-4 : tie.Need-returns-4
 returns-4 c =
@@ -78,5 +78,5 @@ access-spec =
     load-requires
     returns-3
     store-requires
-    add-t20
+    add-t17
     returns-4)

@@ -7,24 +7,23 @@ use lib.ListN.{length, take}
 use Rattle.word.specs.Bytes.{words}
 use Rattle.word.proofs.Bytes.{words-length}
 use Rattle.isa.specs.Program.{spots, operation}
-use Rattle.ticks.specs.Ticks.{views}
-use Rattle.gather.specs.Gather.{scratch, Kept}
-use Rattle.gather.proofs.Passes.{kept-none, openedBefore, opened-more, opened-few, opened-low, opened-high, operations-more, operations-all, room}
+use Rattle.gather.specs.Gather.{opLate, fireAt, scratch, Kept}
+use Rattle.gather.proofs.Passes.{kept-none, kept-more, openedBefore, opened-more, opened-few, opened-low, opened-high, operations-more, operations-all, room}
 use Rattle.gather.proofs.collect.Statement.{statement}
 use Rattle.gather.proofs.collect.Tie as tie
 
 abbrev Inv-loop : tie.InvT-loop
-Inv-loop part end t value old ready land memory delays reg₀ val₀ del₀ at₀ word₀ size₀ s₀ opened₀ j₀ j-end reg val del at word size s opened j =
+Inv-loop part end t value ready memory delays reg₀ val₀ del₀ at₀ word₀ size₀ s₀ opened₀ j₀ j-end reg val del at word size s opened j =
     (j ≤ j-end) × (opened ≡ openedBefore (words part) j)
-    × Kept delays (views t value old ready land) memory (end .0) (map operation (take j (spots (words part)))) s (scratch reg val del at word size)
+    × Kept (opLate t ready) (fireAt value) delays memory (end .0) (map operation (take j (spots (words part)))) s (scratch reg val del at word size)
 
 abbrev μ-loop : tie.MeasureT-loop
-μ-loop part end t value old ready land memory delays reg₀ val₀ del₀ at₀ word₀ size₀ s₀ opened₀ j₀ j-end reg val del at word size s opened j =
+μ-loop part end t value ready memory delays reg₀ val₀ del₀ at₀ word₀ size₀ s₀ opened₀ j₀ j-end reg val del at word size s opened j =
     j-end - j
 
 loop-holds : tie.Need-loop-holds Inv-loop μ-loop
 loop-holds c =
-    let p = c .before .before .pre .1 .1 .1 in
+    let p = c .before .before .pre .1 .1 in
     (omega arith, refl, kept-none (p .0) (p .1))
 
 inside : (c : tie.In-loop Inv-loop μ-loop) → c .before .loop .j < length (words (c .before .before .before .before .args .part .now))
@@ -45,7 +44,7 @@ step-requires c κs =
     let k = i .before .loop .inv .2 in
     let h = inside i in (
       (h, rw (opened o) (opened-low (p .0) _ h), rw (opened o) (opened-high (p .0) _ h)),
-      (p .1 .0, (p .1 .1 .0, (record { results = k .holds .results; stores = k .holds .stores }, room (p .0) _ h k))),
+      (p .1 .0, (record { results = k .holds .results; stores = k .holds .stores }, room (p .0) _ h k)),
     )
 
 add-j : tie.Need-add-j Inv-loop μ-loop
@@ -61,7 +60,7 @@ loop-again c =
     let p = i .before .before .before .before .pre in (
       omega (arith, i .loop-test .taken),
       opened o,
-      rw (opened o, operations-more (p .0) _ (inside i)) at (c .step .ensures _ (i .before .loop .inv .2)),
+      rw (opened o, operations-more (p .0) _ (inside i)) at (kept-more (λ o. refl) (i .before .loop .inv .2) (c .step .ensures)),
     )
 
 returns : tie.Need-returns Inv-loop μ-loop

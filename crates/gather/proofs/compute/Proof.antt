@@ -9,8 +9,8 @@ use Rattle.gather.proofs.compute.Tie as tie
 operands-at-requires : tie.Need-operands-at-requires
 operands-at-requires c κs = search needs
 
-computed-requires : tie.Need-computed-requires
-computed-requires c κs = search needs
+value-requires : tie.Need-value-requires
+value-requires c κs = search needs
 
 result-requires : tie.Need-result-requires
 result-requires c κs =
@@ -32,9 +32,9 @@ returns c =
     let h = c .before .before .before .before .before .before .before .before .before .before .before in
     let a = h .args in
     let o = c .before .before .before .before .before .before .before .before .before .before .operands-at .ensures in
-    let e = fireAt (a .t) (a .value .now) (a .old .now) (a .land .now) (a .op) in
+    let e = fireAt (a .value .now) (a .op) in
     grown-two (a .delays) e _
-    (rw (c .before .before .before .before .before .before .before .before .before .computed .ensures, o .0, o .1 .0, o .1 .1) at (c .before .before .before .before .before .result .ensures))
+    (rw (c .before .before .before .before .before .before .before .before .before .value .ensures, o .0, o .1 .0, o .1 .1) at (c .before .before .before .before .before .result .ensures))
     (rw (c .before .before .before .before .carry .ensures, o .0, o .1 .0, o .1 .1) at (c .result2 .ensures))
 
 pub compute-spec : {M : Type 1} → statement M
@@ -42,7 +42,7 @@ compute-spec =
     tie.close
     (tie.spec
     operands-at-requires
-    computed-requires
+    value-requires
     result-requires
     carry-requires
     result-requires-2

@@ -8,14 +8,14 @@ use Rattle.gather.proofs.decide.Tie as tie
 returns : tie.Need-returns
 returns c = λ k. decided-first _ _ (c .if1 .taken) _ _
 
-read-requires : tie.Need-read-requires
-read-requires c κs = search needs
+made-requires : tie.Need-made-requires
+made-requires c κs = search needs
 
 control-requires : tie.Need-control-requires
 control-requires c κs = search needs
 
 returns-2 : tie.Need-returns-2
-returns-2 c = λ k. c .control .ensures k ∙ rw (c .before .before .if1 .left, c .before .read .ensures)
+returns-2 c = λ k. c .control .ensures k ∙ rw (c .before .before .if1 .left, c .before .made .ensures)
 
 pub decide-spec : {M : Type 1} → statement M
-decide-spec = tie.close (tie.spec returns read-requires control-requires returns-2)
+decide-spec = tie.close (tie.spec returns made-requires control-requires returns-2)

@@ -1,10 +1,10 @@
--- The value is what `stored` keeps of the register that is read.
+-- The value is what `stored` keeps of the register.
 use borrow.Author.Needs.{needs}
 use Rattle.gather.proofs.store.Statement.{statement}
 use Rattle.gather.proofs.store.Tie as tie
 
-read-requires : tie.Need-read-requires
-read-requires c κs = search needs
+made-requires : tie.Need-made-requires
+made-requires c κs = search needs
 
 stored-requires : tie.Need-stored-requires
 stored-requires c κs = search needs
@@ -15,7 +15,7 @@ note-store-requires c κs = search needs
 returns : tie.Need-returns
 returns c =
     let n = c .note-store .ensures in
-    (rw (← c .before .before .before .before .before .read .ensures, ← c .before .stored .ensures) (n .0), n .1)
+    (rw (← c .before .before .before .before .before .made .ensures, ← c .before .stored .ensures) (n .0), n .1)
 
 pub store-spec : {M : Type 1} → statement M
-store-spec = tie.close (tie.spec read-requires stored-requires note-store-requires returns)
+store-spec = tie.close (tie.spec made-requires stored-requires note-store-requires returns)

@@ -22,10 +22,10 @@ within s =
     omega (arith, words-length (s .args .program .now), following-within p (s .args .at .0) (inside s))
 
 abbrev start : tie.After-collect → tie.Start
-start q = q .before .before .before .before .before .before .before .before .before .before .before .before .before .before .before .before .before .before .before
+start q = q .before .before .before .before .before .before .before .before .before .before .before .before .before .before .before .before .before
 
 abbrev followed : tie.After-collect → tie.After-following
-followed q = q .before .before .before .before .before .before .before .before .before .before .before .before .before .before .before
+followed q = q .before .before .before .before .before .before .before .before .before .before .before .before .before
 
 abbrev collected : tie.Else3 → tie.After-collect
 collected e = e .before .before .before .before .before .before
@@ -56,10 +56,10 @@ part-collect-end c = omega (arith, within (c .before .before .before .before .be
 
 collect-requires : tie.Need-collect-requires
 collect-requires c κs =
-    let s = c .before .before .before .before .before .before .before .before .before .before .before .before .before .before .before .before .before .before in
+    let s = c .before .before .before .before .before .before .before .before .before .before .before .before .before .before .before .before in
     let p = s .pre in (
-      own-part (s .args .program .now) (s .args .at .0) _ (p .0) (p .1 .0 .start) (c .before .before .before .before .before .before .before .before .before .before .before .before .before .before .following .ensures),
-      (p .0 .timely, (p .1 .0 .bank .sizes, (room-results (p .1 .1 .0), room-stores (p .1 .1 .0) _))),
+      own-part (s .args .program .now) (s .args .at .0) _ (p .0) (p .1 .0 .start) (c .before .before .before .before .before .before .before .before .before .before .before .before .following .ensures),
+      (p .0 .timely, (room-results (p .1 .1 .0), room-stores (p .1 .1 .0) _)),
     )
 
 same-length : tie.Need-same-length
@@ -69,7 +69,7 @@ returns : tie.Need-returns
 returns c =
     let q = c .before .before in
     let s = start q in
-    let k = gathered (s .args .program .now) (s .args .at .0) _ (s .pre .1 .0 .start) (followed q .following .ensures) (q .collect .ensures) in
+    let k = gathered (s .args .program .now) (s .args .at .0) _ (s .pre .0) (s .pre .1 .0) (followed q .following .ensures) (q .collect .ensures) in
     (room-left k, turn-busy (s .pre .0) (s .pre .1 .0) k _ _ (c .if1 .taken))
 
 same-length-2 : tie.Need-same-length-2
@@ -79,7 +79,7 @@ returns-2 : tie.Need-returns-2
 returns-2 c =
     let q = c .before .before .before .before in
     let s = start q in
-    let k = gathered (s .args .program .now) (s .args .at .0) _ (s .pre .1 .0 .start) (followed q .following .ensures) (q .collect .ensures) in
+    let k = gathered (s .args .program .now) (s .args .at .0) _ (s .pre .0) (s .pre .1 .0) (followed q .following .ensures) (q .collect .ensures) in
     (room-left k, turn-stop (s .pre .0) (s .pre .1 .0) k _ _ (c .before .before .if1 .left) (c .if2 .taken))
 
 same-length-3 : tie.Need-same-length-3
@@ -89,7 +89,7 @@ returns-3 : tie.Need-returns-3
 returns-3 c =
     let q = c .before .before .before .before .before .before in
     let s = start q in
-    let k = gathered (s .args .program .now) (s .args .at .0) _ (s .pre .1 .0 .start) (followed q .following .ensures) (q .collect .ensures) in
+    let k = gathered (s .args .program .now) (s .args .at .0) _ (s .pre .0) (s .pre .1 .0) (followed q .following .ensures) (q .collect .ensures) in
     (room-left k, turn-fault (s .pre .0) (s .pre .1 .0) k _ _ (c .before .before .before .before .if1 .left) (c .before .before .if2 .left) (c .if3 .taken))
 
 shared-requires : tie.Need-shared-requires
@@ -103,7 +103,7 @@ returns-4 c =
     let e = c .before .before .before .before in
     let q = collected e in
     let s = start q in
-    let k = gathered (s .args .program .now) (s .args .at .0) _ (s .pre .1 .0 .start) (followed q .following .ensures) (q .collect .ensures) in (
+    let k = gathered (s .args .program .now) (s .args .at .0) _ (s .pre .0) (s .pre .1 .0) (followed q .following .ensures) (q .collect .ensures) in (
       room-left k,
       turn-shared (s .pre .0) (s .pre .1 .0) k _ _ (e .before .before .before .before .if1 .left) (e .before .before .if2 .left) (e .if3 .left)
           (sym (c .before .shared .ensures _) ∙ c .if4 .taken),
@@ -139,7 +139,7 @@ returns-5 c =
     let e = alone e₄ in
     let q = collected e in
     let s = start q in
-    let k = gathered (s .args .program .now) (s .args .at .0) _ (s .pre .1 .0 .start) (followed q .following .ensures) (q .collect .ensures) in
+    let k = gathered (s .args .program .now) (s .args .at .0) _ (s .pre .0) (s .pre .1 .0) (followed q .following .ensures) (q .collect .ensures) in
     let m = c .before .before .before .before .before .before .before .before .before .commit .ensures in (
       room-left k,
       turn-go (s .pre .0) (s .pre .1 .0) k _ _ (e .before .before .before .before .if1 .left) (e .before .before .if2 .left) (e .if3 .left)

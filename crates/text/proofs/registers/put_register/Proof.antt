@@ -1,9 +1,6 @@
 use borrow.Author.Needs.{needs}
-use mathlib.Core.Path.{_≡_, refl, sym, ap, _∙_}
+use mathlib.Core.Path.{refl}
 use native.Mathlib.Omega.{arith}
-use Rattle.vliw.specs.Cell.{landed}
-use Rattle.machine.specs.Image.{cellIn}
-use Rattle.text.specs.Rows.{indexOf}
 use Rattle.text.proofs.Puts.{silent, shown, row-length}
 use Rattle.text.proofs.registers.put_register.Statement.{statement}
 use Rattle.text.proofs.registers.put_register.Tie as tie

@@ -1,5 +1,4 @@
 use borrow.Author.Needs.{needs}
-use native.Mathlib.Omega.{arith}
 use Rattle.text.proofs.Outputs.{too-long, as-read, kept}
 use Rattle.text.proofs.running.print.Statement.{statement}
 use Rattle.text.proofs.running.print.Tie as tie

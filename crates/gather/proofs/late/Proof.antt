@@ -1,0 +1,20 @@
+-- The tests are those of the definition, in its order.
+use mathlib.Core.Path.{sym, _∙_}
+use borrow.Author.Needs.{needs}
+use Rattle.gather.proofs.late.Statement.{statement}
+use Rattle.gather.proofs.late.Tie as tie
+
+pub late-spec : {M : Type 1} → statement M
+late-spec =
+    tie.close
+    (tie.spec
+    (λ c κs. search needs)
+    (λ c. rw (sym (c .before .late .ensures) ∙ c .if1 .taken))
+    (λ c κs. search needs)
+    (λ c. rw (sym (c .before .before .before .late .ensures) ∙ c .before .before .if1 .left, sym (c .before .late2 .ensures) ∙ c .if2 .taken))
+    (λ c κs. search needs)
+    (λ c. rw (sym (c .before .before .before .before .before .late .ensures) ∙ c .before .before .before .before .if1 .left, sym (c .before .before .before .late2 .ensures) ∙ c .before .before .if2 .left, sym (c .before .late3 .ensures) ∙ c .if3 .taken))
+    (λ c κs. search needs)
+    (λ c. rw (sym (c .before .before .before .before .before .before .before .late .ensures) ∙ c .before .before .before .before .before .before .if1 .left, sym (c .before .before .before .before .before .late2 .ensures) ∙ c .before .before .before .before .if2 .left, sym (c .before .before .before .late3 .ensures) ∙ c .before .before .if3 .left, sym (c .before .late4 .ensures) ∙ c .if4 .taken))
+    (λ c κs. search needs)
+    (λ c. rw (sym (c .before .before .before .before .before .before .before .before .late .ensures) ∙ c .before .before .before .before .before .before .before .if1 .left, sym (c .before .before .before .before .before .before .late2 .ensures) ∙ c .before .before .before .before .before .if2 .left, sym (c .before .before .before .before .late3 .ensures) ∙ c .before .before .before .if3 .left, sym (c .before .before .late4 .ensures) ∙ c .before .if4 .left) (c .late5 .ensures)))
