@@ -57,8 +57,8 @@ module _ {Memory Store : Type 0} (store : Store → Memory → Memory) (program 
 
   -- an instruction that goes from i to j: what was in flight is one next further
   module _ {i j : ℕ} (on : List·Memᴰ j (program i .nexts)) where
-    further : {r b : ℕ} → (0 < b → Flying i r b) → 0 < b - 1 → Flying j r (b - 1)
-    further {r} {b} flying h =
+    further : {r b c : ℕ} → (0 < b → Flying i r b) → 0 < c → c + 1 ≡ b → Flying j r c
+    further {r} {b} flying h e =
         let f : Flying i r b = flying (omega arith) in
         record {
           maker = f .maker;
@@ -73,9 +73,9 @@ module _ {Memory Store : Type 0} (store : Store → Memory → Memory) (program 
         }
 
     aged-sound : (r v w b l : ℕ) → Sound i r record { value = v; waiting = w; busy = b; landing = l } → Sound j r (agedOf v w b l)
-    aged-sound r v w b zero c = record { low = omega arith; flying = further (c .flying) }
-    aged-sound r v w b (suc zero) c = record { low = omega arith; flying = further (c .flying) }
-    aged-sound r v w b (suc (suc l)) c = record { low = omega arith; flying = further (c .flying) }
+    aged-sound r v w b zero c = record { low = omega arith; flying = λ h. further (c .flying) h (omega arith) }
+    aged-sound r v w b (suc zero) c = record { low = omega arith; flying = λ h. further (c .flying) h (omega arith) }
+    aged-sound r v w b (suc (suc l)) c = record { low = omega arith; flying = λ h. further (c .flying) h (omega arith) }
 
     -- and what it writes is in flight from it
     module _ (starting : starts i ≡ true) {d : Dest} (of : List·Memᴰ d (program i .dests)) where

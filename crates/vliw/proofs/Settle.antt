@@ -42,6 +42,7 @@ module _ {Memory Store : Type 0} (store : Store → Memory → Memory) (program 
         landed-puts,
         map-unseen landed aged (λ c. landed-aged (c .value) (c .waiting) (c .busy) (c .landing)),
       )
+      refl
 
   -- what the instruction reads has landed
   read : (r : ℕ) → List·Memᴰ r (program (s .place) .reads) → getD (map (λ (c : Cell). c .value) (s .registers)) r 0 ≡ getD (map landed (s .registers)) r 0

@@ -1,4 +1,6 @@
 -- A register other than 0 is noted, with the delay that `delay` gives.
+use mathlib.Core.Path.{_≡_}
+use mathlib.Core.Logic.{_≢_}
 use native.Mathlib.Omega.{arith}
 use borrow.Author.Tests.{eq-eqb, ne-eqb}
 use Rattle.gather.proofs.Growth.{grown-none}
@@ -7,7 +9,10 @@ use Rattle.gather.proofs.result.Statement.{statement}
 use Rattle.gather.proofs.result.Tie as tie
 
 returns : tie.Need-returns
-returns c = rw (eq-eqb _ 0 (c .if1 .taken)) (grown-none 1 (c .before .pre .1 .0))
+returns c =
+    let h = c .before in
+    let none : h .args .r ≡ 0 = omega (arith, c .if1 .taken, h .pre .1 .1 .1) in
+    rw (eq-eqb _ 0 none) (grown-none 1 (h .pre .1 .0))
 
 delay-requires : tie.Need-delay-requires
 delay-requires c κs = search needs
@@ -26,7 +31,9 @@ add-result c = search needs
 returns-2 : tie.Need-returns-2
 returns-2 c =
     let n = c .note .ensures in
-    rw (ne-eqb _ 0 (c .before .before .before .before .before .if1 .left), ← c .before .before .before .before .delay .ensures)
+    let e = c .before .before .before .before .before in
+    let some : e .before .args .r ≢ 0 = λ z. omega (arith, e .if1 .left) in
+    rw (ne-eqb _ 0 some, ← c .before .before .before .before .delay .ensures)
     (record { results = n .0; few = omega arith; dests = n .1 .0; values = n .1 .1 })
 
 pub result-spec : {M : Type 1} → statement M

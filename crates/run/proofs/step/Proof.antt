@@ -123,15 +123,10 @@ store-all-requires : tie.Need-store-all-requires
 store-all-requires c κs = collected (alone (unwritten (c .before .before .before .before .before))) .collect .ensures .holds .stores
 
 onward-requires : tie.Need-onward-requires
-onward-requires c κs = search needs
-
-add-t20 : tie.Need-add-t20
-add-t20 c =
-    let q = collected (alone (unwritten (c .before .before .before .before .before .before .before .before .before .before))) in
-    omega (arith, start q .pre .1 .1 .1, q .collect .ensures .holds .results .few)
+onward-requires c κs = alone (unwritten (c .before .before .before .before .before .before .before .before)) .before .before .if2 .left
 
 same-length-5 : tie.Need-same-length-5
-same-length-5 c = search needs
+same-length-5 c = c .before .before .before .before .store-all .kept .0
 
 returns-5 : tie.Need-returns-5
 returns-5 c =
@@ -170,6 +165,6 @@ step-spec =
     commit-requires
     store-all-requires
     onward-requires
-    add-t20
+    (λ c. let q = collected (alone (unwritten (c .before .before .before .before .before .before .before .before .before .before))) in omega (arith, start q .pre .1 .1 .1, q .collect .ensures .holds .results .few))
     same-length-5
     returns-5)
