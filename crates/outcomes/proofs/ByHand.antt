@@ -6,7 +6,9 @@ use Prim.Native.Nat.{ℕ}
 use Rattle.word.specs.Bytes.{words}
 use Rattle.vliw.specs.Run.{run}
 use Rattle.vliw.specs.Machine.{inOrder, step}
+use Rattle.isa.specs.Decode.{decode}
 use Rattle.isa.specs.Program.{following, isStart}
+use Rattle.isa.specs.declared.Op.{Op}
 use Rattle.isa.specs.declared.Place.{Place}
 use Rattle.isa.specs.declared.Table.{Table}
 use Rattle.schedule.specs.Rule.{Says}
@@ -26,6 +28,10 @@ use Rattle.outcomes.specs.OneOutcome.{OneOutcome}
 use Rattle.outcomes.proofs.States.{place-is, state-is}
 
 -- a place is its number
+-- nothing of it goes by the cluster, so take one
+pub isa-still-one : (s : ℕ) → OneOutcome (λ (r : Op). ((c : ℕ) → r ≡ decode c s))
+isa-still-one s a b p q = p 0 ∙ sym (q 0)
+
 pub isa-following-one : (program : List ℕ) (at : Place) → OneOutcome (λ (r : Place). r .0 ≡ following (words program) (at .0))
 isa-following-one program at a b p q = place-is (p ∙ sym q)
 

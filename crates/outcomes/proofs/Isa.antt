@@ -1,12 +1,17 @@
 -- Written by tests/public. Two outcomes that meet an equation are equal.
 use mathlib.Core.Path.{_∙_, sym}
 use Rattle.outcomes.specs.Isa.{Isa}
-use Rattle.outcomes.proofs.ByHand.{isa-following-one}
+use Rattle.outcomes.proofs.ByHand.{isa-still-one, isa-following-one}
 
 pub isa : Isa
 isa = record {
   immediate-one = λ _ _ _ p q. p ∙ sym q;
   offset-one = λ _ _ _ p q. p ∙ sym q;
+  compute-one = λ _ _ _ _ p q. p ∙ sym q;
+  access-one = λ _ _ _ _ p q. p ∙ sym q;
+  copy-one = λ _ _ _ _ p q. p ∙ sym q;
+  still-one = isa-still-one;
+  jump-one = λ _ _ _ _ p q. p ∙ sym q;
   decode-one = λ _ _ _ _ p q. p ∙ sym q;
   syllable-one = λ _ _ _ _ p q. p ∙ sym q;
   following-one = isa-following-one;
@@ -17,6 +22,7 @@ isa = record {
   opens-one = λ _ _ _ p q. p ∙ sym q;
   opcode-one = λ _ _ _ p q. p ∙ sym q;
   format-one = λ _ _ _ p q. p ∙ sym q;
+  within-one = λ _ _ _ _ _ p q. p ∙ sym q;
   is-alu-one = λ _ _ _ p q. p ∙ sym q;
   is-mul-one = λ _ _ _ p q. p ∙ sym q;
   is-mem-one = λ _ _ _ p q. p ∙ sym q;

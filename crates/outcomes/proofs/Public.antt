@@ -11,6 +11,7 @@ use Rattle.outcomes.proofs.Machine.{machine}
 use Rattle.outcomes.proofs.Ticks.{ticks}
 use Rattle.outcomes.proofs.Run.{run}
 use Rattle.outcomes.proofs.Sandbox.{sandbox}
+use Rattle.outcomes.proofs.Text.{text}
 
 pub public : Public
 public = record {
@@ -24,5 +25,6 @@ public = record {
   ticks = ticks;
   run = run;
   sandbox = sandbox;
+  text = text;
   nothing = λ _ _ _ _. refl;
 }

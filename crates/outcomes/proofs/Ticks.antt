@@ -5,7 +5,7 @@ use Rattle.outcomes.proofs.ByHand.{ticks-leave-one}
 
 pub ticks : Ticks
 ticks = record {
-  read-one = λ _ _ _ _ _ _ _ p q. p ∙ sym q;
+  made-one = λ _ _ _ _ p q. p ∙ sym q;
   late-one = λ _ _ _ _ _ p q. p ∙ sym q;
   leave-one = ticks-leave-one;
 }

@@ -8,7 +8,7 @@ use lib.ListN.{getD}
 use Rattle.word.specs.Bytes.{words}
 use Rattle.isa.specs.Decode.{decode, immediate, offset}
 use Rattle.isa.specs.Program.{following, isStart}
-use Rattle.isa.specs.Syllable.{bits, ends, formatOf, isAlu, isControl, isCopy, isMem, isMul, isStop, opcode, opens}
+use Rattle.isa.specs.Syllable.{bits, ends, formatOf, isAlu, isControl, isCopy, isMem, isMul, isStop, opcode, opens, within}
 use Rattle.isa.specs.Table.{tableBreaks, tableOf}
 use Rattle.isa.specs.Touch.{delayOf}
 use Rattle.isa.specs.Zero.{stray}
@@ -23,6 +23,11 @@ pub record Isa : Type 0 where
   -- crates/isa/src/decode.rt
   pub immediate-one : (s : ℕ) → OneOutcome (λ (r : ℕ). r ≡ immediate s)
   pub offset-one : (s : ℕ) → OneOutcome (λ (r : ℕ). r ≡ offset s)
+  pub compute-one : (c s : ℕ) → OneOutcome (λ (r : Op). r ≡ decode c s)
+  pub access-one : (c s : ℕ) → OneOutcome (λ (r : Op). r ≡ decode c s)
+  pub copy-one : (c s : ℕ) → OneOutcome (λ (r : Op). r ≡ decode c s)
+  pub still-one : (s : ℕ) → OneOutcome (λ (r : Op). ((c : ℕ) → r ≡ decode c s))
+  pub jump-one : (c s : ℕ) → OneOutcome (λ (r : Op). r ≡ decode c s)
   pub decode-one : (c s : ℕ) → OneOutcome (λ (r : Op). r ≡ decode c s)
   -- crates/isa/src/program.rt
   pub syllable-one : (program : List ℕ) (at : Place) → OneOutcome (λ (r : ℕ). r ≡ getD (words program) (at .0) 0)
@@ -35,6 +40,7 @@ pub record Isa : Type 0 where
   pub opens-one : (s : ℕ) → OneOutcome (λ (r : Bool). r ≡ opens s)
   pub opcode-one : (s : ℕ) → OneOutcome (λ (r : ℕ). r ≡ opcode s)
   pub format-one : (o : ℕ) → OneOutcome (λ (r : Format). r ≡ formatOf o)
+  pub within-one : (first last s : ℕ) → OneOutcome (λ (r : Bool). r ≡ within first last (opcode s))
   pub is-alu-one : (s : ℕ) → OneOutcome (λ (r : Bool). r ≡ isAlu s)
   pub is-mul-one : (s : ℕ) → OneOutcome (λ (r : Bool). r ≡ isMul s)
   pub is-mem-one : (s : ℕ) → OneOutcome (λ (r : Bool). r ≡ isMem s)

@@ -10,4 +10,5 @@ pub mod Machine
 pub mod Ticks
 pub mod Run
 pub mod Sandbox
+pub mod Text
 pub mod Public

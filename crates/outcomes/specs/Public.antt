@@ -10,6 +10,7 @@ use Rattle.outcomes.specs.Machine.{Machine}
 use Rattle.outcomes.specs.Ticks.{Ticks}
 use Rattle.outcomes.specs.Run.{Run}
 use Rattle.outcomes.specs.Sandbox.{Sandbox}
+use Rattle.outcomes.specs.Text.{Text}
 
 pub record Public : Type 0 where
   pub word : Word
@@ -22,5 +23,6 @@ pub record Public : Type 0 where
   pub ticks : Ticks
   pub run : Run
   pub sandbox : Sandbox
+  pub text : Text
   -- a function that returns nothing and changes nothing has one outcome, even if it promises nothing
   pub nothing : OneOutcome (λ (o : record {}). Unit)

@@ -8,12 +8,12 @@ use lib.ListN.{getD}
 use Rattle.isa.specs.declared.Place.{Place}
 use Rattle.machine.specs.State.{Sized, registersOf}
 use Rattle.machine.specs.declared.State.{State}
-use Rattle.ticks.specs.Ticks.{valueAt, views}
+use Rattle.ticks.specs.Ticks.{views}
 use Rattle.outcomes.specs.OneOutcome.{OneOutcome}
 
 pub record Ticks : Type 0 where
   -- crates/ticks/src/lib.rt
-  pub read-one : (value old land : List ℕ) (r t : ℕ) → OneOutcome (λ (v : ℕ). v ≡ valueAt t value old land r)
+  pub made-one : (value : List ℕ) (r : ℕ) → OneOutcome (λ (v : ℕ). v ≡ getD value r 0)
   pub late-one : (ready : List ℕ) (r t : ℕ) → OneOutcome (λ (b : Bool). b ≡ ltb t (getD ready r 0))
   pub leave-one : (value old ready land : List ℕ) (t : ℕ) (place : Place)
       → OneOutcome (λ (s : State).

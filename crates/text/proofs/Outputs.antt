@@ -9,32 +9,32 @@ use lib.Seq.{sets, sets-eq, length-sets}
 use borrow.Author.Tests.{lt-ltb, le-ltb}
 use Rattle.word.proofs.Bytes.{sets-append}
 use Rattle.machine.specs.Run.{Call, Outcome, runOutcome}
-use Rattle.text.specs.Rows.{row}
+use Rattle.text.specs.Rows.{fields}
 use Rattle.text.specs.Lines.{newline, pieces, firstLine, Read, Good, fromFirst, readText}
 use Rattle.text.specs.Items.{saidIn, held, Kept}
 use Rattle.text.specs.Output.{Unread, Loads, Runs, callOf, tooMuch, endingOf, printedOf, printed, shownOf, Put}
 use Rattle.text.specs.declared.Shown.{Shown}
 use Rattle.text.specs.declared.reading.Reading.{Reading}
 use Rattle.text.specs.declared.reading.Sizes.{Sizes}
-use Rattle.text.proofs.Puts.{row-length}
+use Rattle.text.proofs.Puts.{fields-length}
 
 -- line 1 alone
 module _ (before : List ℕ) (number : ℕ) {c p C P : ℕ} (s : c ≡ C) (t : p ≡ P) where
-  pub alone : {after : List ℕ} → after ≡ sets before 0 (row number 8 c p) → Put before after 21 (row number 8 C P ++ [])
+  pub alone : {after : List ℕ} → after ≡ sets before 0 (fields number 8 c p) → Put before after 21 (fields number 8 C P ++ [])
   alone e =
       record {
         out = rw (append-nil, ← s, ← t) e;
-        count = rw append-nil (sym (row-length number 8 C P));
+        count = rw append-nil (sym (fields-length number 8 C P));
         fits = omega arith;
       }
 
   -- line 1, and rows after it
-  pub followed-by : {mid after : List ℕ} (rows : List ℕ) {r : ℕ} → mid ≡ sets before 0 (row number 8 c p) → after ≡ sets mid 21 rows
-      → r ≡ 21 + length rows → r ≤ 4341 → Put before after r (row number 8 C P ++ rows)
+  pub followed-by : {mid after : List ℕ} (rows : List ℕ) {r : ℕ} → mid ≡ sets before 0 (fields number 8 c p) → after ≡ sets mid 21 rows
+      → r ≡ 21 + length rows → r ≤ 4341 → Put before after r (fields number 8 C P ++ rows)
   followed-by rows e f l m =
       record {
-        out = f ∙ rw (e, ← s, ← t) (sets-append before 0 (row number 8 c p) rows (omega (arith, row-length number 8 c p)));
-        count = omega (arith, length-append (row number 8 C P) rows, row-length number 8 C P);
+        out = f ∙ rw (e, ← s, ← t) (sets-append before 0 (fields number 8 c p) rows (omega (arith, fields-length number 8 c p)));
+        count = omega (arith, length-append (fields number 8 C P) rows, fields-length number 8 C P);
         fits = m;
       }
 

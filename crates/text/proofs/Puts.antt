@@ -10,7 +10,7 @@ use borrow.Author.Tests.{ne-eqb}
 use Rattle.word.proofs.Bytes.{sets-append}
 use Rattle.vliw.specs.Cell.{landedOf}
 use Rattle.text.specs.Digits.{digit, hex}
-use Rattle.text.specs.Rows.{field, row, registerRow, each}
+use Rattle.text.specs.Rows.{field, fields, registerRow, each}
 
 pub hex-length : (n v : ℕ) → length (hex n v) ≡ n
 hex-length zero v = refl
@@ -38,9 +38,9 @@ field-length n v after = omega (arith, hex-length n v, length-append (hex n v) (
 pub field-put : (l : List ℕ) (at n v after : ℕ) → set (sets l at (hex n v)) (at + n) after ≡ sets l at (field n v after)
 field-put l at n v after = sets-append l at (hex n v) (after ∷ []) (omega (arith, hex-length n v))
 
-pub row-length : (x n y z : ℕ) → length (row x n y z) ≡ n + 13
-unfolding row
-row-length x n y z =
+pub fields-length : (x n y z : ℕ) → length (fields x n y z) ≡ n + 13
+unfolding fields
+fields-length x n y z =
     omega (
       arith,
       length-append (field 2 x 32) (field n y 32 ++ field 8 z 10),
@@ -50,10 +50,10 @@ row-length x n y z =
       field-length 8 z 10,
     )
 
-pub row-put : (l : List ℕ) (at x n y z : ℕ)
-    → sets (sets (sets l at (field 2 x 32)) (at + 3) (field n y 32)) (at + n + 4) (field 8 z 10) ≡ sets l at (row x n y z)
-unfolding row
-row-put l at x n y z =
+pub fields-put : (l : List ℕ) (at x n y z : ℕ)
+    → sets (sets (sets l at (field 2 x 32)) (at + 3) (field n y 32)) (at + n + 4) (field 8 z 10) ≡ sets l at (fields x n y z)
+unfolding fields
+fields-put l at x n y z =
     sets-append (sets l at (field 2 x 32)) (at + 3) (field n y 32) (field 8 z 10) (omega (arith, field-length n y 32))
     ∙ sets-append l at (field 2 x 32) (field n y 32 ++ field 8 z 10) (omega (arith, field-length 2 x 32))
 
@@ -67,7 +67,7 @@ module _ (c r : ℕ) {v w : ℕ} (e : v ≡ w) where
   pub silent : v ≡ 0 → registerRow c r w ≡ []
   silent z = rw (← e, z)
 
-  pub shown : (v ≡ 0 → ⊥) → registerRow c r w ≡ row c 2 r v
+  pub shown : (v ≡ 0 → ⊥) → registerRow c r w ≡ fields c 2 r v
   shown n = rw (← e, ne-eqb v 0 n)
 
 -- ---- one after the other

@@ -15,18 +15,18 @@ abbrev pub field : ℕ → ℕ → ℕ → List ℕ
 field digits v after = hex digits v ++ (after ∷ [])
 
 -- three numbers, of two, `digits` and eight digits
-unfoldable pub row : ℕ → ℕ → ℕ → ℕ → List ℕ
-row x digits y z = field 2 x blank ++ (field digits y blank ++ field 8 z newline)
+unfoldable pub fields : ℕ → ℕ → ℕ → ℕ → List ℕ
+fields x digits y z = field 2 x blank ++ (field digits y blank ++ field 8 z newline)
 
 abbrev pub answerRow : Answer → List ℕ
-answerRow a = row (a .number) 8 (a .count) (a .place)
+answerRow a = fields (a .number) 8 (a .count) (a .place)
 
 -- where register r of cluster c stands among all: 0 to 3F are general, 40 to 47 branch registers
 abbrev pub indexOf : ℕ → ℕ → ℕ
 indexOf c r = pick (ltb r 64) (c * 64 + r) (256 + c * 8 + (r - 64))
 
 abbrev pub registerRow : ℕ → ℕ → ℕ → List ℕ
-registerRow c r v = pick (eqb v 0) [] (row c 2 r v)
+registerRow c r v = pick (eqb v 0) [] (fields c 2 r v)
 
 -- what f makes of 0, 1, .., n of them, one after the other
 unfoldable pub each : (ℕ → List ℕ) → ℕ → List ℕ

@@ -6,7 +6,7 @@ ghost use lib.Seq.{sets};
 ghost use Rattle.vliw.specs.Cell.{landed};
 ghost use Rattle.machine.specs.Image.{cellIn};
 ghost use Rattle.text.specs.Rows.{indexOf, registerRow, clusterRows, registerRows};
-use crate::rows::put_row;
+use crate::rows::put_fields;
 use word::number::word_at;
 
 // The value of register `r` of all 288 once everything has landed.
@@ -44,7 +44,7 @@ fn put_register(out: &mut [u8], at: usize, image: &[u8], c: usize, r: usize) -> 
     if v == 0 {
         return at;
     }
-    put_row(out, at, c as u64, 2, r as u64, v as u64);
+    put_fields(out, at, c as u64, 2, r as u64, v as u64);
     at + 15
 }
 

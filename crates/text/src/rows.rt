@@ -4,7 +4,7 @@ ghost use Prim.Native.Nat.{_+_, _≤_, _<_};
 ghost use lib.ListN.{length};
 ghost use lib.Seq.{sets};
 ghost use Rattle.text.specs.Digits.{digit, hex};
-ghost use Rattle.text.specs.Rows.{field, row, answerRow};
+ghost use Rattle.text.specs.Rows.{field, fields, answerRow};
 use loader::Answer;
 
 fn digit_byte(x: u64) -> u8
@@ -37,9 +37,9 @@ fn put_field(out: &mut [u8], at: usize, digits: usize, v: u64, after: u8)
 }
 
 // Three numbers, of two, `digits` and eight digits.
-pub fn put_row(out: &mut [u8], at: usize, x: u64, digits: usize, y: u64, z: u64)
+pub fn put_fields(out: &mut [u8], at: usize, x: u64, digits: usize, y: u64, z: u64)
     requires { ⌜ at + digits + 13 ≤ length (now out) ⌝ }
-    ensures { λ _. ⌜ now (out .exit) ≡ sets (now (out .entry)) at (row x digits y z) ⌝ }
+    ensures { λ _. ⌜ now (out .exit) ≡ sets (now (out .entry)) at (fields x digits y z) ⌝ }
 {
     put_field(out, at, 2, x, b' ');
     put_field(out, at + 3, digits, y, b' ');
@@ -51,5 +51,5 @@ pub fn put_answer(out: &mut [u8], a: Answer)
     requires { ⌜ 21 ≤ length (now out) ⌝ }
     ensures { λ _. ⌜ now (out .exit) ≡ sets (now (out .entry)) 0 (answerRow a) ⌝ }
 {
-    put_row(out, 0, a.number as u64, 8, a.count, a.place);
+    put_fields(out, 0, a.number as u64, 8, a.count, a.place);
 }

@@ -1,7 +1,7 @@
 use borrow.Author.Needs.{needs}
 use mathlib.Core.Path.{refl}
 use native.Mathlib.Omega.{arith}
-use Rattle.text.proofs.Puts.{silent, shown, row-length}
+use Rattle.text.proofs.Puts.{silent, shown, fields-length}
 use Rattle.text.proofs.registers.put_register.Statement.{statement}
 use Rattle.text.proofs.registers.put_register.Tie as tie
 
@@ -18,11 +18,11 @@ returns c =
     let e = rw (h .before .index .ensures .0) at (h .landed-at .ensures) in
     rw (silent (a .c) (a .r) e (c .if1 .taken)) (refl, omega arith, omega arith)
 
-cast-put-row : tie.Need-cast-put-row
-cast-put-row c = search needs
+cast-put-fields : tie.Need-cast-put-fields
+cast-put-fields c = search needs
 
-put-row-requires : tie.Need-put-row-requires
-put-row-requires c κs = search needs
+put-fields-requires : tie.Need-put-fields-requires
+put-fields-requires c κs = search needs
 
 add-result : tie.Need-add-result
 add-result c = search needs
@@ -36,7 +36,7 @@ returns-2 c =
     let h = p .before .before .before in
     let a = h .before .before .before .before .args in
     let e = rw (h .before .index .ensures .0) at (h .landed-at .ensures) in
-    rw (shown (a .c) (a .r) e (p .before .before .if1 .left)) (p .put-row .ensures, omega (arith, row-length (a .c) 2 (a .r) (h .landed-at .result)), omega arith)
+    rw (shown (a .c) (a .r) e (p .before .before .if1 .left)) (p .put-fields .ensures, omega (arith, fields-length (a .c) 2 (a .r) (h .landed-at .result)), omega arith)
 
 pub put-register-spec : {M : Type 1} → statement M
 put-register-spec =
@@ -45,8 +45,8 @@ put-register-spec =
     index-requires
     landed-at-requires
     returns
-    cast-put-row
-    put-row-requires
+    cast-put-fields
+    put-fields-requires
     add-result
     same-length
     returns-2)

@@ -1,7 +1,7 @@
 use borrow.Author.Needs.{needs}
-use Rattle.text.proofs.Puts.{row-put}
-use Rattle.text.proofs.rows.put_row.Statement.{statement}
-use Rattle.text.proofs.rows.put_row.Tie as tie
+use Rattle.text.proofs.Puts.{fields-put}
+use Rattle.text.proofs.rows.put_fields.Statement.{statement}
+use Rattle.text.proofs.rows.put_fields.Tie as tie
 
 put-field-requires : tie.Need-put-field-requires
 put-field-requires c κs = search needs
@@ -30,10 +30,10 @@ returns c =
     let second = third .before .before .before .before in
     let first = second .before .before .before .before in
     let a = first .before .before .before .args in
-    rw (third .put-field3 .ensures, second .put-field2 .ensures, first .put-field .ensures) (row-put (a .out .now) (a .at) (a .x) (a .digits) (a .y) (a .z))
+    rw (third .put-field3 .ensures, second .put-field2 .ensures, first .put-field .ensures) (fields-put (a .out .now) (a .at) (a .x) (a .digits) (a .y) (a .z))
 
-pub put-row-spec : {M : Type 1} → statement M
-put-row-spec =
+pub put-fields-spec : {M : Type 1} → statement M
+put-fields-spec =
     tie.close
     (tie.spec
     put-field-requires
