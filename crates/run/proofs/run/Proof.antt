@@ -4,6 +4,7 @@ use mathlib.Core.Path.{refl, _∙_, ap}
 use native.Mathlib.Omega.{arith}
 use Rattle.isa.specs.declared.Place.{Place}
 use Rattle.machine.specs.State.{registersOf}
+use Rattle.run.specs.declared.Ran.{Ran as Left}
 use Rattle.run.proofs.Endings.{zero-idle, left-bank, returned}
 use Rattle.ticks.proofs.Cells.{fits-of}
 use Rattle.run.proofs.run.Statement.{statement}
@@ -41,12 +42,26 @@ cast-t43 c = search needs
 same-length : tie.Need-same-length
 same-length c = search needs
 
+-- what is returned, field by field
 returns : tie.Need-returns
 returns c =
     let e = c .before .before .before .before .before .before .before .before .before .before .before .before .before .before .before .before .before .before .before .before .before .before .enter .ensures in
-    let f = c .before .before .before .before .before .before .before .before .before .before .run-all .ensures in
+    let r = c .before .before .before .before .before .before .before .before .before .before .run-all in
+    let f = r .ensures in
     let l = c .before .leave .ensures in
-    (rw (ap (λ (q : Place). q .0) (l .1 .0)) (f .start), returned (e .1) f (l .0) refl refl (ap (λ (q : Place). q .0) (l .1 .0)) (l .1 .1 ∙ rw (c .before .before .before .before .before .before .left-at .ensures)))
+    let place = ap (λ (q : Place). q .0) (l .1 .0) in
+    let left : Left = record { number = r .result .number; count = r .result .count; state = c .before .leave .result } in
+    let is = returned {x = left} (e .1) f (l .0) refl refl place (l .1 .1 ∙ rw (c .before .before .before .before .before .before .left-at .ensures)) in (
+      rw place (f .start),
+      record {
+        sized = is .sized;
+        number = is .number;
+        count = is .count;
+        place = is .place;
+        registers = is .registers;
+        memory = is .memory;
+      },
+    )
 
 pub run-spec : {M : Type 1} → statement M
 run-spec =
