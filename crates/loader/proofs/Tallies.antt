@@ -1,6 +1,5 @@
 -- Laws of tallies.
 use mathlib.Core.Path.{_≡_}
-use mathlib.Core.Bool.{Bool, _||_, _&&_}
 use mathlib.Core.List.{List, [], _∷_}
 use Prim.Native.Nat.{ℕ, _+_, _^_, _<_}
 use native.Mathlib.Omega.{arith}
@@ -11,27 +10,12 @@ use Rattle.word.specs.Lists.{count}
 use Rattle.word.proofs.Lists.{count-le}
 use Rattle.isa.specs.Syllable.{isAlu, isMul, isMem, isControl}
 use Rattle.isa.specs.Program.{Spot, cluster}
-use Rattle.isa.proofs.Steps.{same-eq}
 use Rattle.loader.specs.Broken.{here, copies}
 use Rattle.loader.specs.declared.instructions.Tally.{Tally}
-
--- ---- one syllable more: each counter is one more by a test on what other functions gave
-
-pub one-more : (n m : ℕ) (a b : Bool) → m ≡ n + bit a → a ≡ b → m ≡ n + bit b
-one-more n m a b e h = rw (← h) e
-
-module _ {a b x y : Bool} where
-  pub both : a ≡ x → b ≡ y → (a && b) ≡ (x && y)
-  both e h = rw (e, h)
-
-  pub either : a ≡ x → b ≡ y → (a || b) ≡ (x || y)
-  either e h = rw (e, h)
 
 -- field by field
 pub same : (t u : Tally) → t .all ≡ u .all → t .alu ≡ u .alu → t .mul ≡ u .mul → t .mem ≡ u .mem → t .copy ≡ u .copy → t .control ≡ u .control → t ≡ u
 same t u a b d e f g = λ i. record { all = a i; alu = b i; mul = d i; mem = e i; copy = f i; control = g i }
-
-pub ruleset counters = (same, one-more, both, either, same-eq)
 
 -- ---- a walk over all syllables
 

@@ -12,15 +12,15 @@ add-if1 c = search needs
 add-result : tie.Need-add-result
 add-result c = search needs
 
-returns : tie.Need-returns
-returns c =
-    let s = c .before .args in
-    rw (lt-ltb (s .a) (s .b + s .m) (omega (arith, c .if1 .taken)))
-
 returns-2 : tie.Need-returns-2
 returns-2 c =
     let s = c .before .args in
     rw (le-ltb (s .a) (s .b + s .m) (omega (arith, c .if1 .left)))
+
+returns : tie.Need-returns
+returns c =
+    let s = c .before .args in
+    rw (lt-ltb (s .a) (s .b + s .m) (omega (arith, c .if1 .taken)))
 
 pub share-spec : {M : Type 1} → statement M
 share-spec = tie.close (tie.spec add-if1 add-result returns returns-2)

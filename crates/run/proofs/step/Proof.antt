@@ -136,7 +136,7 @@ returns-5 c =
     let s = start q in
     let k = gathered (s .args .program .now) (s .args .at .0) _ (s .pre .0) (s .pre .1 .0) (followed q .following .ensures) (q .collect .ensures) in
     let m = c .before .before .before .before .before .before .before .before .before .commit .ensures in (
-      room-left k,
+      room-left (q .collect .ensures),
       turn-go (s .pre .0) (s .pre .1 .0) k _ _ (e .before .before .before .before .if1 .left) (e .before .before .if2 .left) (e .if3 .left)
           (sym (e₄ .before .shared .ensures _) ∙ e₄ .if4 .left) _ (rw (followed q .following .ensures) at (c .before .onward .ensures)) (m .0) (m .1) _ (c .before .before .before .before .store-all .ensures),
     )

@@ -1,4 +1,5 @@
 -- Four stores are one result put.
+use native.Mathlib.Omega.{arith}
 use borrow.Author.Needs.{needs}
 use Rattle.ticks.proofs.Views.{put-views, put-bank}
 use Rattle.ticks.proofs.put_one.Statement.{statement}
@@ -42,7 +43,7 @@ returns c =
     let h = c .before .before .before .before in
     let a = h .args in
     let p = h .pre .1 in (
-      put-bank (h .pre .0) (a .r) (p .0) (a .v) (a .b) (a .l) (c .read .result) (p .1) (p .2),
+      put-bank (h .pre .0) (a .r) (p .0) (a .v) _ _ (c .read .result) (omega (arith, p .1)) (omega (arith, p .1, p .2)),
       rw (c .read .ensures) (put-views (h .pre .0) (a .r) (p .0) (a .v) (a .b) (a .l)),
     )
 

@@ -1,6 +1,7 @@
 -- The tests of the arm that the form leads to are those of its line in `strayAs`.
 use borrow.Author.Needs.{needs}
-use Rattle.isa.proofs.Arms.{tests}
+use Rattle.isa.specs.declared.Format.the-variants.{Select}
+use Rattle.isa.proofs.Arms.{stray-line, tests}
 use Rattle.isa.proofs.zero.stray_as.Statement.{statement}
 use Rattle.isa.proofs.zero.stray_as.Tie as tie
 
@@ -33,7 +34,7 @@ stray-as-spec =
     (λ c. search tests)
     (λ c. search tests)
     (λ c. search tests)
-    (λ c. search tests)
+    (λ c. stray-line (c .before .before .before .args .s) _ Select _ (c .before .enum-told5 .given .1) (c .any4 .ensures))
     (λ c. search tests)
     (λ c. search needs)
     (λ c. search needs)
