@@ -1,4 +1,4 @@
-/* Times two libraries with the sandbox's C interface in one process, by turns, on the same calls: bench PROVED.so SECOND.so */
+/* Times libraries with the sandbox's C interface in one process, by turns, on the same calls: bench PROVED.so SECOND.so [OLD.so] */
 #define _POSIX_C_SOURCE 200809L
 #include <dlfcn.h>
 #include <stdio.h>
@@ -9,11 +9,11 @@
 #include "kernels.h"
 #include "vex.h"
 
-enum { PROVED, SECOND, LIBRARIES };
+enum { PROVED, SECOND, OLD, LIBRARIES }; /* OLD, an earlier build of the proved library, only where it is given */
 enum { ROUNDS = 40, MEMORY = 4096 };
 #define SAMPLE_SECONDS 0.02
 
-/* One library: its entries, and slices of its own, so that the two can be compared after each sample. */
+/* One library: its entries, and slices of its own, so that all can be compared after each sample. */
 struct library {
     uint32_t (*load)(const uint8_t *, size_t, const uint8_t *, size_t, uint8_t *, size_t);
     uint32_t (*check)(const uint8_t *, size_t, const uint8_t *, size_t, uint8_t *, size_t);
@@ -58,40 +58,44 @@ static uint32_t call(struct library *l, const struct measure *m) {
                   l->room, sizeof l->room);
 }
 
-/* The seconds that so many calls take, from zeros. */
+/* The CPU seconds that so many calls take, from zeros: what else the machine does meanwhile does not count. */
 static double sample(struct library *l, const struct measure *m, unsigned long calls) {
     struct timespec from, to;
     memset(l->state, 0, sizeof l->state);
     memset(l->memory, 0, sizeof l->memory);
-    clock_gettime(CLOCK_MONOTONIC, &from);
+    clock_gettime(CLOCK_PROCESS_CPUTIME_ID, &from);
     for (unsigned long i = 0; i < calls; i++)
         if (call(l, m) != 0) fail(m->name, "the kernel is not taken");
-    clock_gettime(CLOCK_MONOTONIC, &to);
+    clock_gettime(CLOCK_PROCESS_CPUTIME_ID, &to);
     return (double)(to.tv_sec - from.tv_sec) + 1e-9 * (double)(to.tv_nsec - from.tv_nsec);
 }
 
+static int same(const struct library *a, const struct library *b) {
+    return memcmp(a->room, b->room, VEX_ROOM_BYTES) == 0 && memcmp(a->state, b->state, VEX_STATE_BYTES) == 0 &&
+           memcmp(a->memory, b->memory, MEMORY) == 0;
+}
+
 /* The least time of a call of each library, sampled by turns. */
-static void measure(struct library *l, const struct measure *m, double best[LIBRARIES]) {
+static void measure(struct library *l, int libraries, const struct measure *m, double best[LIBRARIES]) {
     unsigned long calls = 1;
     while (sample(&l[SECOND], m, calls) < SAMPLE_SECONDS) calls *= 2;
-    best[PROVED] = best[SECOND] = 1e9;
+    for (int i = 0; i < libraries; i++) best[i] = 1e9;
     for (int round = 0; round < ROUNDS; round++) {
-        for (int turn = 0; turn < LIBRARIES; turn++) {
-            int which = (turn + round) % LIBRARIES;
+        for (int turn = 0; turn < libraries; turn++) {
+            int which = (turn + round) % libraries;
             double seconds = sample(&l[which], m, calls) / (double)calls;
             if (seconds < best[which]) best[which] = seconds;
         }
-        if (memcmp(l[PROVED].room, l[SECOND].room, VEX_ROOM_BYTES) != 0 || memcmp(l[PROVED].state, l[SECOND].state, VEX_STATE_BYTES) != 0 ||
-            memcmp(l[PROVED].memory, l[SECOND].memory, MEMORY) != 0)
-            fail(m->name, "the two libraries differ");
+        for (int i = 1; i < libraries; i++)
+            if (!same(&l[PROVED], &l[i])) fail(m->name, i == SECOND ? "proved and second differ" : "proved and old differ");
     }
 }
 
 int main(int argc, char **argv) {
     static struct library libraries[LIBRARIES];
-    if (argc != 3) fail("usage", "bench PROVED.so SECOND.so");
-    open_library(&libraries[PROVED], argv[1]);
-    open_library(&libraries[SECOND], argv[2]);
+    int count = argc - 1;
+    if (count != SECOND + 1 && count != OLD + 1) fail("usage", "bench PROVED.so SECOND.so [OLD.so]");
+    for (int i = 0; i < count; i++) open_library(&libraries[i], argv[i + 1]);
 
     const struct kernel *narrow = narrow_kernel(), *wide = wide_kernel(), *full = full_kernel();
     const struct measure measures[] = {
@@ -101,15 +105,20 @@ int main(int argc, char **argv) {
         {"run wide, one instruction", RUN, wide, 10000, 10000 * 1e-9, "ns"},
         {"slice of one instruction", RUN, full, 1, 1e-6, "us"},
     };
-    printf("%-30s %12s %12s %8s\n", "", "proved", "second", "ratio");
+    printf("%-30s %12s %12s %8s", "", "proved", "second", "ratio");
+    if (count > OLD) printf(" %12s %8s", "old", "old/new");
+    printf("\n");
     for (size_t i = 0; i < sizeof measures / sizeof measures[0]; i++) {
         const struct measure *m = &measures[i];
         double best[LIBRARIES];
-        measure(libraries, m, best);
-        printf("%-30s %9.1f %s %9.1f %s %8.2f\n", m->name, best[PROVED] / m->unit, m->per, best[SECOND] / m->unit, m->per,
+        measure(libraries, count, m, best);
+        printf("%-30s %9.1f %s %9.1f %s %8.2f", m->name, best[PROVED] / m->unit, m->per, best[SECOND] / m->unit, m->per,
                best[SECOND] / best[PROVED]);
+        if (count > OLD) printf(" %9.1f %s %8.2f", best[OLD] / m->unit, m->per, best[OLD] / best[PROVED]);
+        printf("\n");
         fflush(stdout);
     }
     printf("ratio: second's time by proved's; above 1 the proved library is the faster one. Only ratios of one run compare.\n");
+    if (count > OLD) printf("old/new: the earlier build's time by proved's; above 1 the proved library has become faster.\n");
     return 0;
 }

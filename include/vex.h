@@ -1,4 +1,5 @@
-/* The preview sandbox for C and C++: three calls that load, check and run an effect. They hold to document 01.
+/* The preview sandbox for C and C++: three calls that load, check and run an effect. docs/MACHINE.md has the machine and the encoding;
+ * vex_words.h has words for the numbers and the causes behind them.
  *
  * Slices. A slice is a pointer and a length in bytes. The pointer stands for that many bytes, readable, and writable for state, memory and
  * room. No two slices of one call overlap. Alignment is free. A pointer may be null where its length is 0. The proofs begin at the slices:
@@ -9,6 +10,16 @@
  * Nothing is kept between calls: what an effect is doing stands in the state image and the memory, both the host's own. The library has no
  * data of its own that it writes, so threads that share no slice they write may call at once. No call asks anything more of its caller:
  * every other input is answered.
+ *
+ * Start and restart. An effect starts from a state image of zeros; its memory is what the host puts there, zeros or data of its own. To restart
+ * means to do both again: the effect's stores stay in the memory until the host clears it. To move an effect to another process is to hand over
+ * state and memory.
+ *
+ * Cost. Every call tests table and program from the beginning: about 10 microseconds for a small effect and under a millisecond for 4,096
+ * syllables (check: some milliseconds), as measured on one x86-64 machine. An instruction takes up to about a microsecond, the widest most, so
+ * n bounds the time of a call: n = 10,000 took about 1 to 10 milliseconds, and n = 0xFFFFFFFF may take more than an hour. A call cannot be broken off; use slices.
+ *
+ * Link. The archive needs memcpy and memset of the system and nothing else; no call allocates, opens a file, or uses a thread.
  */
 #ifndef VEX_H
 #define VEX_H
@@ -18,6 +29,17 @@
 
 #ifdef __cplusplus
 extern "C" {
+#endif
+
+/* This interface. It goes up by one when a call, a number, a layout or a constant changes its meaning. */
+#define VEX_VERSION 1
+
+/* Stack that a call may use, with room to spare. On x86-64 the most that was measured is 22,504 bytes, in run. On Arm and other processors nothing was
+ * measured, as the archive is for x86-64 alone; it is assumed that a library made for them uses at most twice as much. */
+#if defined(__x86_64__)
+#define VEX_STACK_BYTES 32768
+#else
+#define VEX_STACK_BYTES 65536
 #endif
 
 /* The delay table. Byte 0: the cluster count C. Then 5 bytes for each cluster: width (syllables an instruction), and how many ALU, MUL, MEM
@@ -56,10 +78,11 @@ extern "C" {
 #define VEX_BUSY_MAX 7
 
 /* The numbers. 1 to 10 are each tested over the whole input before the next, and the lowest place is named; 11 to 14 are met as the effect
- * runs, in one instruction 11 first, then 12 and 13 syllable by syllable, then 14. In brackets: what the place is. */
+ * runs, in one instruction 11 first, then 12 and 13 syllable by syllable, then 14. Good and paused are both 0: which one it is goes by the call.
+ * 15 and 16 are never given; 16 is the text program's number for a bad line. In brackets: what the place is. */
 enum {
     VEX_GOOD = 0,            /* load, check: nothing is wrong [0] */
-    VEX_PAUSED = 0,          /* run: n instructions are done [the one to come] */
+    VEX_PAUSED = 0,          /* run: n instructions are done, and no stop was met [the one to come] */
     VEX_BAD_TABLE = 1,       /* the table breaks a limit [0] */
     VEX_BAD_LENGTH = 2,      /* a length is wrong [0 program, 1 memory, 2 state, 3 room; the first in this order] */
     VEX_NO_END = 3,          /* the last syllable lacks bit 31 [it] */
@@ -89,8 +112,9 @@ enum {
  * Returns the number, also where the room cannot be written. */
 uint32_t vex_load(const uint8_t *table, size_t table_len, const uint8_t *program, size_t program_len, uint8_t *room, size_t room_len);
 
-/* Loads and checks the schedule: 0 to 8 as vex_load, then 9. Everything else as for vex_load. A program that passes, started from an image
- * of zeros, never gives 11, and its memory, counts and places are the same whatever the landing bytes are. */
+/* Loads and checks the schedule: 0 to 8 as vex_load, then 9. Everything else as for vex_load. Of a program that passes, run in one call from a
+ * valid image in which every busy is 0, as one of zeros: it never gives 11, and number, count, place and memory are the same whatever the landing
+ * bytes are; so are the registers, once everything in flight has landed. */
 uint32_t vex_check(const uint8_t *table, size_t table_len, const uint8_t *program, size_t program_len, uint8_t *room, size_t room_len);
 
 /* Runs at most n instructions from where the state stands. Gives 0 to 8, 10 to 14 and 255; the schedule is not checked.

@@ -1,8 +1,8 @@
-"""Encoders for document 01's syllables, in the order of its table, and a program of two clusters with labels."""
+"""Encoders for syllables, in the order of the table of opcodes in docs/MACHINE.md, and a program of two clusters with labels."""
 
 END, START = 1 << 31, 1 << 30
 
-# What document 01 calls the delay table: two clusters, each four wide with 4 ALU, 2 MUL, 1 MEM, 1 COPY; then the five delays.
+# The delay table: two clusters, each four wide with 4 ALU, 2 MUL, 1 MEM, 1 COPY; then the five delays.
 TABLE = bytes([2, 4, 4, 2, 1, 1, 4, 4, 2, 1, 1, 1, 2, 2, 3, 1])
 
 
@@ -35,6 +35,10 @@ def three(opcode):
     return lambda t, s1, s2: (opcode << 24 | t << 18 | s1 << 12 | second(s2), None)
 
 
+def one(opcode):
+    return lambda t, s1: (opcode << 24 | t << 18 | s1 << 12, None)
+
+
 def choice(opcode):
     return lambda t, bit, s1, s2: (opcode << 24 | t << 18 | s1 << 12 | bit << 9 | s2, None)
 
@@ -44,16 +48,24 @@ def access(opcode):
     return lambda t, base, o=0: (opcode << 24 | t << 18 | base << 12 | offset(o), None)
 
 
-nop = (0, None)
+nop, stop = (0, None), (1 << 18, None)
 add, sub, and_, andc, or_, orc, xor = map(three, range(1, 8))  # sub is s2 minus s1
 shl, shr, shru = map(three, range(8, 11))
 sh1add, sh2add, sh3add, sh4add = map(three, range(11, 15))
 max_, maxu, min_, minu = map(three, range(15, 19))
-mpyll = three(24)
-cmplt_b = three(42)  # to a branch register
+sxtb, sxth, zxtb, zxth = map(one, range(19, 23))
+mpyll, mpyllu, mpylh, mpylhu, mpyhh, mpyhhu = map(three, range(24, 30))
+cmpeq, cmpne, cmplt, cmple, cmpgt, cmpge, cmpltu, cmpleu, cmpgtu, cmpgeu = map(three, range(30, 40))
+# the same to a branch register
+cmpeq_b, cmpne_b, cmplt_b, cmple_b, cmpgt_b, cmpge_b, cmpltu_b, cmpleu_b, cmpgtu_b, cmpgeu_b = map(three, range(40, 50))
 slct, slctf = map(choice, (50, 51))
 ldw, ldh, ldhu, ldb, ldbu = map(access, range(52, 57))
 stw, sth, stb = map(access, range(57, 60))
+
+
+def addcg(t, d, bit, s1, s2):
+    """The sum to t, the carry to branch register d."""
+    return 23 << 24 | t << 18 | s1 << 12 | bit << 9 | d << 6 | s2, None
 
 
 def copy(t, s1, cluster):
@@ -65,7 +77,12 @@ def goto(label):
 
 
 def br(bit, label):
+    """To the label if the branch register holds 1; brf: if it holds 0."""
     return 62 << 24 | bit << 21, label
+
+
+def brf(bit, label):
+    return 63 << 24 | bit << 21, label
 
 
 class Program:

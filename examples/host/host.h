@@ -5,7 +5,7 @@
 #include <stddef.h>
 #include <stdint.h>
 
-#include "vex.h"
+#include "vex_words.h"
 
 enum { DONE = 0, REFUSED = 1, BAD_USE = 2, NO_FILE = 3 };
 
@@ -16,8 +16,9 @@ struct bytes {
 
 struct options {
     const char *effect, *table, *landing, *out;
-    unsigned long memory, slices, instructions;
+    unsigned long memory, slices, instructions; /* instructions: 0 for a frame's */
     unsigned long width, height, address;
+    int trace, registers, step, self_test;
 };
 
 /* A landing list; a seeded one is made anew for each slice. */
@@ -25,6 +26,13 @@ struct landing {
     struct bytes list;
     int seeded;
     uint64_t seed;
+};
+
+/* What a call of run is given. A slice may be run in several calls: `used` counts the landing bytes that it has used. */
+struct machine {
+    struct bytes table, program, state, memory;
+    struct landing landing;
+    size_t used;
 };
 
 /* input.c: the command line and files. Each ends the program, with a line that says why, where it cannot do its work. */
@@ -35,15 +43,21 @@ struct options read_options(int argc, char **argv);
 struct landing read_landing(const char *text);
 void next_landing(struct landing *landing);
 
-/* words.c: prints a refusal or a fault in words, with the instructions that it names. */
-void say_refusal(const char *entry, const uint8_t room[VEX_ROOM_BYTES], struct bytes program);
+/* machine.c: runs. trace_one runs one instruction and prints what it does; frame_length says how many instructions there are until the place
+ * is this one again, or the run ends, at most `limit`. */
+struct vex_given given_of(const struct machine *m);
+struct vex_answer run_machine(struct machine *m, uint32_t n);
+struct vex_answer trace_one(struct machine *m);
+unsigned long frame_length(const struct machine *m, unsigned long limit);
+
+/* show.c: prints a refusal or a fault in words, its cause and the instructions that it names; the registers that are not zero. */
+void say_refusal(const char *entry, struct vex_answer answer, const struct vex_given *given);
+void say_registers(const struct machine *m);
+
+/* frame.c: writes a frame as PREFIX-NNN.pgm and PREFIX-NNN.png, and says the first of these names. */
+void write_frame(const struct options *o, unsigned long slice, const uint8_t *frame);
 
 /* self_test.c: calls every entry with guard bytes round every slice; returns how many checks failed. */
 int self_test(void);
-
-/* The word at these four bytes. */
-static inline uint32_t word_at(const uint8_t *at) {
-    return (uint32_t)at[0] << 24 | (uint32_t)at[1] << 16 | (uint32_t)at[2] << 8 | at[3];
-}
 
 #endif

@@ -11,24 +11,28 @@
 #define SEEDED_BYTES ((size_t)1 << 20)
 
 static const char usage[] =
-    "usage: host [OPTION VALUE].. EFFECT     or: host --self-test\n"
+    "usage: host [OPTION ..] EFFECT     or: host --self-test\n"
     "EFFECT is a file of syllables, 4 bytes each, highest byte first. It is loaded, checked, and run from zeros.\n"
     "  --table FILE           the delay table's bytes; without it, two clusters of four\n"
     "  --memory BYTES         length of the memory (8192)\n"
     "  --slices K             how many slices are run (8)\n"
-    "  --instructions N       instructions a slice (10000)\n"
+    "  --instructions N       instructions a slice; without it a slice is a frame: until the place is the first one's again,\n"
+    "                         or 100000 instructions\n"
     "  --landing LIST         landing bytes for each slice: hex:0A1B.., seed:NUMBER for made ones that\n"
     "                         differ from slice to slice, or a file's name; without it, the empty list\n"
     "  --frame WIDTHxHEIGHT@ADDRESS\n"
     "                         where the frame lies in the memory, a byte a pixel (64x64@0)\n"
-    "  --out PREFIX           writes the frame to PREFIX-001.pgm and so on, one after each slice\n"
+    "  --out PREFIX           writes the frame to PREFIX-001.pgm, PREFIX-001.png and so on, one after each slice\n"
+    "  --trace                prints each instruction: its place and operations, what lands, what goes in flight, what is stored\n"
+    "  --registers            prints after each slice the registers that are not all zero\n"
+    "  --step                 runs from standard input: an empty line is one instruction\n"
+    "  --help                 prints this\n"
     "Exit status: 0 the slices were run, or the effect stopped; 1 a refusal, a fault or a failed self-test;\n"
     "2 bad usage; 3 a file or memory could not be had.\n";
 
 void fail(int status, const char *name, const char *why) {
     fflush(stdout);
-    fprintf(stderr, "host: %s: %s\n", name, why);
-    if (status == BAD_USE) fputs(usage, stderr);
+    fprintf(stderr, "host: %s: %s%s\n", name, why, status == BAD_USE ? "; host --help has the options" : "");
     exit(status);
 }
 
@@ -74,6 +78,7 @@ static void read_option(struct options *o, const char *option, const char *value
         o->slices = number(&value, '\0', 999, option);
     } else if (strcmp(option, "--instructions") == 0) {
         o->instructions = number(&value, '\0', UINT32_MAX, option);
+        if (o->instructions == 0) fail(BAD_USE, option, "a slice has at least one");
     } else if (strcmp(option, "--frame") == 0) {
         o->width = number(&value, 'x', 4096, option);
         o->height = number(&value, '@', 4096, option);
@@ -83,10 +88,24 @@ static void read_option(struct options *o, const char *option, const char *value
     }
 }
 
+/* The options that have no value. */
+static int read_flag(struct options *o, const char *option) {
+    int *const flags[] = {&o->trace, &o->registers, &o->step, &o->self_test};
+    static const char *const names[] = {"--trace", "--registers", "--step", "--self-test"};
+    for (int i = 0; i < 4; i++)
+        if (strcmp(option, names[i]) == 0) return *flags[i] = 1;
+    return 0;
+}
+
 struct options read_options(int argc, char **argv) {
-    struct options o = {.memory = 8192, .slices = 8, .instructions = 10000, .width = 64, .height = 64};
+    struct options o = {.memory = 8192, .slices = 8, .width = 64, .height = 64};
     for (int i = 1; i < argc; i++) {
-        if (strncmp(argv[i], "--", 2) == 0) {
+        if (strcmp(argv[i], "--help") == 0) {
+            fputs(usage, stdout);
+            exit(DONE);
+        } else if (read_flag(&o, argv[i])) {
+            continue;
+        } else if (strncmp(argv[i], "--", 2) == 0) {
             if (i + 1 == argc) fail(BAD_USE, argv[i], "is no option, or its value is missing");
             read_option(&o, argv[i], argv[i + 1]);
             i++;
@@ -96,6 +115,7 @@ struct options read_options(int argc, char **argv) {
             fail(BAD_USE, argv[i], "is a second effect");
         }
     }
+    if (o.self_test) return o;
     if (o.effect == NULL) fail(BAD_USE, "EFFECT", "is missing");
     if (o.width * o.height == 0) fail(BAD_USE, "--frame", "there is no pixel");
     if (o.address + o.width * o.height > o.memory) fail(BAD_USE, "--frame", "goes beyond the memory");

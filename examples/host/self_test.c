@@ -25,8 +25,8 @@ static void expect(int holds, const char *what, const char *name) {
 
 /* The answer of the last call. */
 static int answered(uint32_t number, uint32_t count, uint32_t place) {
-    return word_at(now[ROOM] + VEX_ROOM_NUMBER) == number && word_at(now[ROOM] + VEX_ROOM_COUNT) == count &&
-           word_at(now[ROOM] + VEX_ROOM_PLACE) == place;
+    return vex_word(now[ROOM] + VEX_ROOM_NUMBER) == number && vex_word(now[ROOM] + VEX_ROOM_COUNT) == count &&
+           vex_word(now[ROOM] + VEX_ROOM_PLACE) == place;
 }
 
 static int as_given(const struct call *c, enum slice s) {
@@ -63,7 +63,7 @@ static uint32_t perform(enum entry entry, const struct call *c, size_t shift, co
     int executes = entry == RUN && (number == VEX_PAUSED || number >= VEX_IN_FLIGHT);
     expect(executes || (as_given(c, STATE) && as_given(c, MEMORY)), "state or memory was written", name);
     if (g[ROOM].length == VEX_ROOM_BYTES)
-        expect(word_at(now[ROOM]) == number, "the room has another number", name);
+        expect(vex_word(now[ROOM]) == number, "the room has another number", name);
     else
         expect(as_given(c, ROOM), "a room of another length was written", name);
     return number;
@@ -183,7 +183,7 @@ static void go_on(void) {
 /* One register of the state: its value, waiting value, busy and landing. */
 static int holds(size_t offset, uint32_t value, uint32_t waiting, uint8_t busy, uint8_t landing) {
     const uint8_t *r = now[STATE] + offset;
-    return word_at(r + VEX_REGISTER_VALUE) == value && word_at(r + VEX_REGISTER_WAITING) == waiting &&
+    return vex_word(r + VEX_REGISTER_VALUE) == value && vex_word(r + VEX_REGISTER_WAITING) == waiting &&
            r[VEX_REGISTER_BUSY] == busy && r[VEX_REGISTER_LANDING] == landing;
 }
 

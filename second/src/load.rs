@@ -4,6 +4,7 @@ use crate::answer::Refusal;
 use crate::program::{Instruction, Program};
 use crate::syllable::{Class, Syllable};
 use crate::table::{self, Table};
+use std::cmp::Ordering;
 
 pub const MOST_SYLLABLES: usize = 4096;
 pub const MOST_MEMORY: usize = 65_536;
@@ -28,21 +29,36 @@ pub fn load(table: &[u8], program: &[u8], lengths: Lengths) -> Result<(Table, Pr
     number_2(program.len(), lengths)?;
     let syllables = syllables(program);
     number_3(&syllables)?;
-    number_4(&syllables)?;
+    lowest(number_4(&syllables))?;
     let program = Program::split(&syllables);
-    number_5(&table, &program)?;
-    number_6(&table, &program)?;
-    number_7(&program)?;
-    number_8(&program)?;
+    for number in 5..=8 {
+        lowest(breaks(number, &table, &program))?;
+    }
     Ok((table, program))
 }
 
-fn syllables(program: &[u8]) -> Vec<Syllable> {
+pub fn syllables(program: &[u8]) -> Vec<Syllable> {
     let word = |bytes: &[u8]| u32::from_be_bytes([bytes[0], bytes[1], bytes[2], bytes[3]]);
     program.chunks_exact(4).map(|bytes| Syllable(word(bytes))).collect()
 }
 
-fn number_2(program: usize, lengths: Lengths) -> Result<(), Refusal> {
+/// Lowest place first.
+fn lowest(breaks: Vec<Refusal>) -> Result<(), Refusal> {
+    breaks.into_iter().min_by_key(|refusal| refusal.place).map_or(Ok(()), Err)
+}
+
+/// All breaks of a number from 5 to 8, whatever the others say.
+pub fn breaks(number: u32, table: &Table, program: &Program) -> Vec<Refusal> {
+    match number {
+        5 => number_5(table, program),
+        6 => number_6(table, program),
+        7 => number_7(program),
+        8 => number_8(program),
+        _ => panic!("a number from 5 to 8"),
+    }
+}
+
+pub fn number_2(program: usize, lengths: Lengths) -> Result<(), Refusal> {
     let good_program = program % 4 == 0 && (1..=MOST_SYLLABLES).contains(&(program / 4));
     if !good_program {
         return Err(Refusal::new(2, 0, "program size"));
@@ -59,7 +75,7 @@ fn number_2(program: usize, lengths: Lengths) -> Result<(), Refusal> {
     Ok(())
 }
 
-fn number_3(syllables: &[Syllable]) -> Result<(), Refusal> {
+pub fn number_3(syllables: &[Syllable]) -> Result<(), Refusal> {
     let last = syllables.len() - 1;
     if !syllables[last].ends_instruction() {
         return Err(Refusal::new(3, last as u32, "last syllable lacks bit 31"));
@@ -67,70 +83,60 @@ fn number_3(syllables: &[Syllable]) -> Result<(), Refusal> {
     Ok(())
 }
 
-fn number_4(syllables: &[Syllable]) -> Result<(), Refusal> {
-    for (place, syllable) in syllables.iter().enumerate() {
-        if let Some(cause) = syllable.stray_bits() {
-            return Err(Refusal::new(4, place as u32, cause));
-        }
-    }
-    Ok(())
+pub fn number_4(syllables: &[Syllable]) -> Vec<Refusal> {
+    let stray =
+        |(place, syllable): (usize, &Syllable)| syllable.stray_bits().map(|cause| Refusal::new(4, place as u32, cause));
+    syllables.iter().enumerate().filter_map(stray).collect()
 }
 
-fn number_5(table: &Table, program: &Program) -> Result<(), Refusal> {
+fn number_5(table: &Table, program: &Program) -> Vec<Refusal> {
     let c = table.clusters.len() as u32;
+    let mut breaks = Vec::new();
     for instruction in &program.instructions {
         if !instruction.syllables[0].syllable.starts_cluster() {
-            return Err(Refusal::new(5, instruction.place, "bit 30 missing"));
+            breaks.push(Refusal::new(5, instruction.place, "bit 30 missing"));
         }
         for placed in &instruction.syllables {
             let syllable = placed.syllable;
+            let mut refused = |cause| breaks.push(Refusal::new(5, placed.place, cause));
             if placed.cluster >= c {
-                return Err(Refusal::new(5, placed.place, "more clusters than C"));
+                refused("more clusters than C");
             }
             if syllable.class() == Class::Control && placed.cluster != 0 {
-                return Err(Refusal::new(5, placed.place, "control outside cluster 0"));
+                refused("control outside cluster 0");
             }
             if syllable.class() == Class::Copy && syllable.copy_source() == placed.cluster {
-                return Err(Refusal::new(5, placed.place, "copy from its own cluster"));
+                refused("copy from its own cluster");
             }
             if syllable.class() == Class::Copy && syllable.copy_source() >= c {
-                return Err(Refusal::new(5, placed.place, "copy from a cluster not below C"));
+                refused("copy from a cluster not below C");
             }
         }
     }
-    Ok(())
+    breaks
 }
 
-fn number_6(table: &Table, program: &Program) -> Result<(), Refusal> {
+fn number_6(table: &Table, program: &Program) -> Vec<Refusal> {
+    let mut breaks = Vec::new();
     for instruction in &program.instructions {
+        let mut refused = |cause| breaks.push(Refusal::new(6, instruction.place, cause));
         for (cluster, limits) in table.clusters.iter().enumerate() {
-            let cluster = cluster as u32;
-            let mine = || instruction.syllables.iter().filter(|placed| placed.cluster == cluster);
-            let of_class = |class| mine().filter(|placed| placed.syllable.class() == class).count() as u32;
+            let counts = instruction.counts(cluster as u32);
+            if counts.syllables > limits.width {
+                refused("width");
+            }
+            if counts.alu > limits.alu {
+                refused("ALU");
+            }
+            if counts.mul > limits.mul {
+                refused("MUL");
+            }
+            if counts.mem > limits.mem {
+                refused("MEM");
+            }
             // A copy counts for COPY in the cluster it goes to and in the one it comes from.
-            let copies_out = instruction
-                .syllables
-                .iter()
-                .filter(|placed| placed.syllable.class() == Class::Copy)
-                .filter(|placed| placed.syllable.copy_source() == cluster)
-                .count() as u32;
-            let refused = |cause| Err(Refusal::new(6, instruction.place, cause));
-            if mine().count() as u32 > limits.width {
-                return refused("width");
-            }
-            if of_class(Class::Alu) > limits.alu {
-                return refused("ALU");
-            }
-            if of_class(Class::Mul) > limits.mul {
-                return refused("MUL");
-            }
-            if of_class(Class::Mem) > limits.mem {
-                return refused("MEM");
-            }
-            if of_class(Class::Copy) + copies_out > limits.copy {
-                let inward = of_class(Class::Copy) > limits.copy;
-                let outward = copies_out > limits.copy;
-                return refused(match (inward, outward) {
+            if counts.copies_in + counts.copies_out > limits.copy {
+                refused(match (counts.copies_in > limits.copy, counts.copies_out > limits.copy) {
                     (true, _) => "COPY to it",
                     (false, true) => "COPY from it",
                     (false, false) => "COPY to and from it",
@@ -139,50 +145,50 @@ fn number_6(table: &Table, program: &Program) -> Result<(), Refusal> {
         }
         let controls = instruction.syllables.iter().filter(|placed| placed.syllable.class() == Class::Control).count();
         if controls > 1 {
-            return Err(Refusal::new(6, instruction.place, "two control syllables"));
+            refused("two control syllables");
         }
     }
-    Ok(())
+    breaks
 }
 
-fn number_7(program: &Program) -> Result<(), Refusal> {
+fn number_7(program: &Program) -> Vec<Refusal> {
+    let mut breaks = Vec::new();
     for instruction in &program.instructions {
         let destinations = instruction.destinations();
         for (index, destination) in destinations.iter().enumerate() {
             if destinations[..index].contains(destination) {
-                return Err(Refusal::new(7, instruction.place, "double destination"));
+                breaks.push(Refusal::new(7, instruction.place, "double destination"));
             }
         }
     }
-    Ok(())
+    breaks
 }
 
-fn number_8(program: &Program) -> Result<(), Refusal> {
+fn number_8(program: &Program) -> Vec<Refusal> {
+    let mut breaks = Vec::new();
     let last = program.instructions.len() - 1;
     for (index, instruction) in program.instructions.iter().enumerate() {
-        // Its place is the first syllable, so it comes before the control syllable's cases.
         if index == last && !instruction.has_goto() && !instruction.is_stop() {
-            return Err(Refusal::new(8, instruction.place, last_cause(instruction)));
+            breaks.push(Refusal::new(8, instruction.place, last_cause(instruction)));
         }
         for placed in &instruction.syllables {
             if let Some(target) = placed.syllable.target() {
                 if program.starting_at(target).is_none() {
-                    let inside = target < program.instructions[last].following();
-                    let at_end = target == program.instructions[last].following();
-                    let cause = match (inside, at_end) {
-                        (true, _) => "target inside an instruction",
-                        (_, true) => "target at the program's end",
-                        _ => "target beyond the program",
+                    let end = program.instructions[last].following();
+                    let cause = match target.cmp(&end) {
+                        Ordering::Less => "target inside an instruction",
+                        Ordering::Equal => "target at the program's end",
+                        Ordering::Greater => "target beyond the program",
                     };
-                    return Err(Refusal::new(8, placed.place, cause));
+                    breaks.push(Refusal::new(8, placed.place, cause));
                 }
             }
             if placed.syllable.is_stop() && instruction.syllables.len() > 1 {
-                return Err(Refusal::new(8, placed.place, "stop has company"));
+                breaks.push(Refusal::new(8, placed.place, "stop has company"));
             }
         }
     }
-    Ok(())
+    breaks
 }
 
 fn last_cause(instruction: &Instruction) -> &'static str {

@@ -1,6 +1,6 @@
 //! A program: its instructions, each a stretch of syllables with their clusters.
 
-use crate::syllable::{Register, Syllable};
+use crate::syllable::{Class, Register, Syllable};
 use crate::table::Table;
 
 /// One syllable of an instruction, with its place and the cluster it belongs to.
@@ -18,7 +18,33 @@ pub struct Instruction {
     pub syllables: Vec<Placed>,
 }
 
+/// What an instruction has in one cluster; a copy goes into one and out of another.
+pub struct Counts {
+    pub syllables: u32,
+    pub alu: u32,
+    pub mul: u32,
+    pub mem: u32,
+    pub copies_in: u32,
+    pub copies_out: u32,
+}
+
 impl Instruction {
+    pub fn counts(&self, cluster: u32) -> Counts {
+        let how_many =
+            |which: &dyn Fn(&Placed) -> bool| self.syllables.iter().filter(|placed| which(placed)).count() as u32;
+        let of_class = |class| how_many(&|placed| placed.cluster == cluster && placed.syllable.class() == class);
+        Counts {
+            syllables: how_many(&|placed| placed.cluster == cluster),
+            alu: of_class(Class::Alu),
+            mul: of_class(Class::Mul),
+            mem: of_class(Class::Mem),
+            copies_in: of_class(Class::Copy),
+            copies_out: how_many(&|placed| {
+                placed.syllable.class() == Class::Copy && placed.syllable.copy_source() == cluster
+            }),
+        }
+    }
+
     pub fn reads(&self) -> Vec<Register> {
         let reads_of = |placed: &Placed| placed.syllable.reads(placed.cluster);
         self.syllables.iter().flat_map(reads_of).collect()

@@ -2,9 +2,10 @@
 use mathlib.Core.Path.{_≡_, refl, sym, _∙_}
 use mathlib.Core.Bool.{Bool, true, false}
 use mathlib.Core.List.{List, [], _∷_, _++_, map, append-nil, append-assoc}
-use Prim.Native.Nat.{ℕ, _+_}
+use Prim.Native.Nat.{ℕ, _+_, _≤_, _<_}
 use native.Mathlib.Omega.{arith}
 use lib.Dec.{eqb}
+use lib.ListN.{set}
 use borrow.Author.Tests.{eq-eqb}
 use Rattle.word.specs.Choice.{pick}
 use Rattle.ops.specs.Value.{carry}
@@ -13,7 +14,8 @@ use Rattle.isa.specs.declared.Op.{Op}
 use Rattle.isa.specs.declared.Delays.{Delays}
 use Rattle.machine.specs.Instruction.{Fired, valueIn}
 use Rattle.ticks.specs.Ticks.{Results}
-use Rattle.gather.specs.Gather.{destIn, valuesBy, Grown}
+use Rattle.ticks.proofs.Results.{note-results, note-dests, note-values}
+use Rattle.gather.specs.Gather.{destIn, valuesBy, Noted}
 
 -- ---- the results of one operation
 
@@ -25,24 +27,24 @@ map-one : {A B : Type 0} (f : A → B) (t : Bool) (x : A) (l : List A) → map f
 map-one f true x l = refl
 map-one f false x l = refl
 
-dests-two : (d : Delays) (o : Op) → destIn d (o .opcode) (o .t1) [] ++ destIn d (o .opcode) (o .t2) [] ≡ dests d (o ∷ [])
+dests-two : (d : Delays) (o : Op) → destIn d (o .opcode) (o .t) [] ++ destIn d (o .opcode) (o .carry) [] ≡ dests d (o ∷ [])
 dests-two d o = simp (one-then, map-one)
 
-values-two : (e : Fired) (v : ℕ) → valueIn (e .op .t1) v [] ++ valueIn (e .op .t2) (carry (e .x) (e .y) (e .z)) [] ≡ valuesBy e v
-values-two e v = one-then (eqb (e .op .t1) 0) v _
+values-two : (e : Fired) (v : ℕ) → valueIn (e .op .t) v [] ++ valueIn (e .op .carry) (carry (e .x) (e .y) (e .b)) [] ≡ valuesBy e v
+values-two e v = one-then (eqb (e .op .t) 0) v _
 
--- ---- how the arrays grow
+-- ---- how many the arrays hold
 
-pub grown-none : {gs vs ds : List ℕ} {n : ℕ} (more : ℕ) → Results gs vs ds n → Grown more gs vs ds n gs vs ds n [] []
-grown-none more h = record { results = h; few = omega arith; dests = sym (append-nil _); values = sym (append-nil _) }
+pub noted-none : {gs vs ds : List ℕ} {n : ℕ} (more : ℕ) → Results gs vs ds n → Noted more gs vs ds n gs vs ds n [] []
+noted-none more h = record { results = h; few = omega arith; dests = sym (append-nil _); values = sym (append-nil _) }
 
 module _ {gs vs ds : List ℕ} {n : ℕ} where
   module _ {hs ws cs : List ℕ} {k : ℕ} (d : Delays) (e : Fired) (v : ℕ)
-      (g : Grown 1 gs vs ds n hs ws cs k (destIn d (e .op .opcode) (e .op .t1) []) (valueIn (e .op .t1) v [])) where
-    pub grown-two : {is us bs : List ℕ} {l : ℕ}
-        → Grown 1 hs ws cs k is us bs l (destIn d (e .op .opcode) (e .op .t2) []) (valueIn (e .op .t2) (carry (e .x) (e .y) (e .z)) [])
-        → Grown 2 gs vs ds n is us bs l (dests d (e .op ∷ [])) (valuesBy e v)
-    grown-two h =
+      (g : Noted 1 gs vs ds n hs ws cs k (destIn d (e .op .opcode) (e .op .t) []) (valueIn (e .op .t) v [])) where
+    pub noted-two : {is us bs : List ℕ} {l : ℕ}
+        → Noted 1 hs ws cs k is us bs l (destIn d (e .op .opcode) (e .op .carry) []) (valueIn (e .op .carry) (carry (e .x) (e .y) (e .b)) [])
+        → Noted 2 gs vs ds n is us bs l (dests d (e .op ∷ [])) (valuesBy e v)
+    noted-two h =
         record {
           results = h .results;
           few = omega (arith, g .few, h .few);
@@ -50,9 +52,15 @@ module _ {gs vs ds : List ℕ} {n : ℕ} where
           values = h .values ∙ rw (g .values, append-assoc, values-two e v);
         }
 
-    pub grown-one : e .op .t2 ≡ 0 → Grown 2 gs vs ds n hs ws cs k (dests d (e .op ∷ [])) (valuesBy e v)
-    grown-one z = grown-two (rw (eq-eqb (e .op .t2) 0 z) (grown-none 1 (g .results)))
+    pub noted-one : e .op .carry ≡ 0 → Noted 2 gs vs ds n hs ws cs k (dests d (e .op ∷ [])) (valuesBy e v)
+    noted-one z = noted-two (rw (eq-eqb (e .op .carry) 0 z) (noted-none 1 (g .results)))
 
-  pub grown-silent : (d : Delays) (e : Fired) (v : ℕ) → e .op .t1 ≡ 0 → e .op .t2 ≡ 0 → Results gs vs ds n
-      → Grown 2 gs vs ds n gs vs ds n (dests d (e .op ∷ [])) (valuesBy e v)
-  grown-silent d e v y z h = grown-one d e v (rw (eq-eqb (e .op .t1) 0 y) (grown-none 1 h)) z
+  pub noted-silent : (d : Delays) (e : Fired) (v : ℕ) → e .op .t ≡ 0 → e .op .carry ≡ 0 → Results gs vs ds n
+      → Noted 2 gs vs ds n gs vs ds n (dests d (e .op ∷ [])) (valuesBy e v)
+  noted-silent d e v y z h = noted-one d e v (rw (eq-eqb (e .op .t) 0 y) (noted-none 1 h)) z
+
+-- one more result, stored at n
+pub noted-more : {gs vs ds : List ℕ} {n : ℕ} → Results gs vs ds n → (r v l : ℕ) → n < 64 → r < 288 → 0 < l → l ≤ 8
+    → Noted 1 gs vs ds n (set gs n r) (set vs n v) (set ds n l) (n + 1) (record { reg = r; delay = l } ∷ []) (v ∷ [])
+noted-more z r v l h q low high =
+    record { results = note-results z r v l h q low high; few = omega arith; dests = note-dests z r v l h; values = note-values z r v l h }

@@ -37,8 +37,8 @@ module _ (l : Registers) (idle : at l 0 .busy ≡ 0) where
   busy-apart [] = refl
   busy-apart (o ∷ os) =
       let read = any (flies l) (reads os) in
-      rw (counted (o .t1), counted (o .t2), ← busy-apart os)
-      (simp or-assoc (rw (or-swap read (flies l (o .t1)), or-swap read (flies l (o .t2)))))
+      rw (counted (o .t), counted (o .carry), ← busy-apart os)
+      (simp or-assoc (rw (or-swap read (flies l (o .t)), or-swap read (flies l (o .carry)))))
 
   pub busy-uses : (d : Delays) (os : List Op) → anyBusy (reads os ++ map (λ (e : Dest). e .reg) (dests d os)) l ≡ any (opBusy l) os
   busy-uses d os = rw (map-map, any-append) (busy-apart os)

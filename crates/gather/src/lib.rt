@@ -1,63 +1,74 @@
 // One pass over an instruction's operations: everything is read, and nothing is written but scratch.
+use isa::Count;
 use isa::Delays;
 use isa::Op;
 use isa::Place;
+use isa::Slot;
+use isa::Spot;
+use isa::Turn;
+use isa::control::turn;
 use isa::decode;
-use isa::program::syllable;
+use isa::stretch::before_all;
+use isa::stretch::cluster;
+use isa::stretch::next_spot;
+use isa::stretch::syllable;
 use isa::syllable::opcode;
-use isa::syllable::opens;
 use isa::touch::delay;
+use memory::Access;
+use memory::FirstFault;
 ghost use mathlib.Core.Path.{_≡_};
-ghost use mathlib.Core.Bool.{true};
+ghost use mathlib.Core.Bool.{true, false};
 ghost use mathlib.Core.List.{List, [], _∷_, _++_, map};
-ghost use Prim.Native.Nat.{ℕ, _+_, _-_, _≤_, _<_};
+ghost use Prim.Native.Nat.{ℕ, _+_, _≤_, _<_};
 ghost use lib.ListN.{length, getD};
-ghost use Rattle.word.specs.Choice.{bit};
 ghost use Rattle.word.specs.Bytes.{words, numberAt};
 ghost use Rattle.ops.specs.Value.{loaded, stored};
 ghost use Rattle.ops.specs.Value.{value as valueOf};
-ghost use Rattle.isa.specs.Syllable.{opens};
-ghost use Rattle.isa.specs.Decode.{decode};
+ghost use Rattle.isa.specs.Syllable.{isMem};
+ghost use Rattle.isa.specs.Control.{turnOf};
 ghost use Rattle.isa.specs.Program.{spots, operation};
-ghost use Rattle.isa.specs.Touch.{dests, wayOf};
+ghost use Rattle.isa.specs.Touch.{dests};
 ghost use Rattle.isa.specs.declared.Op.{Op};
 ghost use Rattle.isa.specs.declared.Delays.{Delays};
 ghost use Rattle.memory.specs.Memory.{sizeOf};
+ghost use Rattle.memory.specs.Held.{Within, Stores, storesIn};
+ghost use Rattle.memory.specs.declared.FirstFault.the-variants.{None};
 ghost use Rattle.machine.specs.Instruction.{addressOf, valueIn, Next, nextBy};
 ghost use Rattle.ticks.specs.Ticks.{Results};
-ghost use Rattle.gather.specs.Gather.{decided, Own, Timely, Formed, isMemory, isControl, opLate, fireAt, destIn, valuesBy, Grown, Scratch, scratch, Holds, Acts, Does, Kept};
-ghost use Rattle.memory.specs.Held.{Within, Stores, storesIn};
+ghost use Rattle.gather.specs.Gather.{Own, Timely, Formed, isTurn, turnIn, opLate, fireAt, destIn, valuesBy, Noted, Scratch, scratch, Holds, Acts, Does, Gathered};
 
-// What the operations so far came to. busy is 1 if one has a register in flight, and then nothing else counts; fault is the first, or 0;
-// results and stores are in scratch; way is 0 if none decided where to go on, 1 to the place, 2 nowhere.
+// Where the operations so far go on: that is open, they stop, or it is set to a place. Apart from the place, since copying isa's Turn once
+// for each operation makes the loop twice as slow (docs/DECISIONS.md).
+pub enum Course {
+    Open,
+    Stop,
+    Set,
+}
+
+// What the operations so far came to: whether one has a register in flight, and then nothing else counts; the first fault of their
+// accesses; how many results and stores are in scratch; and where the first that decides it goes on.
 pub struct Seen {
-    pub busy: u64,
-    pub fault: u64,
+    pub busy: bool,
+    pub fault: FirstFault,
     pub results: usize,
     pub stores: usize,
-    pub way: u64,
-    pub place: u64,
+    pub course: Course,
+    pub place: Place,
 }
 
-// Where an operation goes on, as in Seen.
-pub struct Turn {
-    pub way: u64,
-    pub place: u64,
-}
-
-// The values of what an operation reads: s1, s2 or the number, and s3.
+// The values of what an operation reads: s1, s2 or the immediate, and b.
 pub struct Operands {
     pub x: u32,
     pub y: u32,
-    pub z: u32,
+    pub b: u32,
 }
 
 // ---- registers in flight
 
 // Whether a register of the operation is in flight.
-fn late(op: Op, ready: &[u64; 288], t: u64) -> bool
+fn late(op: Op, ready: &[u64; 288], t: Count) -> bool
     requires { ⌜ Formed op ⌝ }
-    ensures { λ b. ⌜ b ≡ opLate t (now (ready .entry)) op ⌝ }
+    ensures { λ b. ⌜ b ≡ opLate (t .0) (now (ready .entry)) op ⌝ }
 {
     if ticks::late(ready, op.s1, t) {
         return true;
@@ -65,27 +76,33 @@ fn late(op: Op, ready: &[u64; 288], t: u64) -> bool
     if ticks::late(ready, op.s2, t) {
         return true;
     }
-    if ticks::late(ready, op.s3, t) {
+    if ticks::late(ready, op.b, t) {
         return true;
     }
-    if ticks::late(ready, op.t1, t) {
+    if ticks::late(ready, op.stored, t) {
         return true;
     }
-    ticks::late(ready, op.t2, t)
+    if ticks::late(ready, op.t, t) {
+        return true;
+    }
+    ticks::late(ready, op.carry, t)
 }
 
 // An operation with a register in flight does nothing.
 fn held(s: Seen) -> Seen
     ensures { λ r. ⌜ r
-        ≡ record { busy = 1; fault = s .fault; results = s .results; stores = s .stores; way = s .way; place = s .place } ⌝ }
+        ≡ record { busy = true; fault = s .fault; results = s .results; stores = s .stores; course = s .course; place = s .place } ⌝ }
 {
+    let fault = s.fault;
+    let course = s.course;
+    let place = s.place;
     Seen {
-        busy: 1,
-        fault: s.fault,
+        busy: true,
+        fault,
         results: s.results,
         stores: s.stores,
-        way: s.way,
-        place: s.place,
+        course,
+        place,
     }
 }
 
@@ -105,7 +122,7 @@ fn result(
     requires { ⌜ Timely delays ⌝ }
     requires { ⌜ Results (now reg) (now val) (now del) n ⌝ }
     requires { ⌜ (n < 64) × (r < 288) ⌝ }
-    ensures { λ k. ⌜ Grown 1 (now (reg .entry)) (now (val .entry)) (now (del .entry)) n
+    ensures { λ k. ⌜ Noted 1 (now (reg .entry)) (now (val .entry)) (now (del .entry)) n
         (now (reg .exit)) (now (val .exit)) (now (del .exit)) k (destIn delays opcode r []) (valueIn r v []) ⌝ }
 {
     if r == 0 {
@@ -120,15 +137,19 @@ fn operands_at(op: Op, value: &[u32; 288]) -> Operands
     requires { ⌜ Formed op ⌝ }
     ensures x { λ r. ⌜ r .x ≡ fireAt (now (value .entry)) op .x ⌝ }
     ensures y { λ r. ⌜ r .y ≡ fireAt (now (value .entry)) op .y ⌝ }
-    ensures z { λ r. ⌜ r .z ≡ fireAt (now (value .entry)) op .z ⌝ }
+    ensures b { λ r. ⌜ r .b ≡ fireAt (now (value .entry)) op .b ⌝ }
 {
     let x = ticks::made(value, op.s1);
     let s2 = ticks::made(value, op.s2);
-    let z = ticks::made(value, op.s3);
+    let b = ticks::made(value, op.b);
     if op.s2 == 0 {
-        Operands { x, y: op.number, z }
+        Operands {
+            x,
+            y: op.immediate,
+            b,
+        }
     } else {
-        Operands { x, y: s2, z }
+        Operands { x, y: s2, b }
     }
 }
 
@@ -147,21 +168,21 @@ fn compute(
     requires { ⌜ Results (now reg) (now val) (now del) n ⌝ }
     requires { ⌜ n < 63 ⌝ }
     ensures { λ k. ⌜ (let e = fireAt (now (value .entry)) op in
-        Grown 2 (now (reg .entry)) (now (val .entry)) (now (del .entry)) n
+        Noted 2 (now (reg .entry)) (now (val .entry)) (now (del .entry)) n
         (now (reg .exit)) (now (val .exit)) (now (del .exit)) k
-        (dests delays (op ∷ [])) (valuesBy e (valueOf (op .opcode) (e .x) (e .y) (e .z)))) ⌝ }
+        (dests delays (op ∷ [])) (valuesBy e (valueOf (op .opcode) (e .x) (e .y) (e .b)))) ⌝ }
 {
     let o = operands_at(op, value);
-    let v = ops::value(op.opcode, o.x, o.y, o.z);
-    let k = result(delays, op.opcode, op.t1, v, n, reg, val, del);
-    let c = ops::carry(o.x, o.y, o.z);
-    result(delays, op.opcode, op.t2, c, k, reg, val, del)
+    let v = ops::value(op.opcode, o.x, o.y, o.b);
+    let k = result(delays, op.opcode, op.t, v, n, reg, val, del);
+    let c = ops::carry(o.x, o.y, o.b);
+    result(delays, op.opcode, op.carry, c, k, reg, val, del)
 }
 
 // An operation that computes.
 fn computes(
     op: Op,
-    t: u64,
+    t: Count,
     value: &[u32; 288],
     ready: &[u64; 288],
     delays: Delays,
@@ -175,7 +196,7 @@ fn computes(
     requires { ⌜ Results (now reg) (now val) (now del) (s .results) ⌝ }
     requires { ⌜ (s .results < 63) × (0 < op .opcode) × (op .opcode ≤ 51) ⌝ }
     ensures { λ r. ⌜ ((m : List ℕ) (j : ℕ) (ps ws ns : List ℕ) → Stores ps ws ns (s .stores) (length m)
-        → Does (opLate t (now (ready .entry)) op) delays m j (fireAt (now (value .entry)) op)
+        → Does (opLate (t .0) (now (ready .entry)) op) delays m j (fireAt (now (value .entry)) op)
         s (scratch (now (reg .entry)) (now (val .entry)) (now (del .entry)) ps ws ns)
         r (scratch (now (reg .exit)) (now (val .exit)) (now (del .exit)) ps ws ns)) ⌝ }
 {
@@ -183,20 +204,23 @@ fn computes(
         return held(s);
     }
     let results = compute(op, value, delays, s.results, reg, val, del);
+    let fault = s.fault;
+    let course = s.course;
+    let place = s.place;
     Seen {
         busy: s.busy,
-        fault: s.fault,
+        fault,
         results,
         stores: s.stores,
-        way: s.way,
-        place: s.place,
+        course,
+        place,
     }
 }
 
 // A copy, which keeps its source.
 fn copies(
     op: Op,
-    t: u64,
+    t: Count,
     value: &[u32; 288],
     ready: &[u64; 288],
     delays: Delays,
@@ -210,7 +234,7 @@ fn copies(
     requires { ⌜ Results (now reg) (now val) (now del) (s .results) ⌝ }
     requires { ⌜ (s .results < 63) × (op .opcode ≡ 60) ⌝ }
     ensures { λ r. ⌜ ((m : List ℕ) (j : ℕ) (ps ws ns : List ℕ) → Stores ps ws ns (s .stores) (length m)
-        → Does (opLate t (now (ready .entry)) op) delays m j (fireAt (now (value .entry)) op)
+        → Does (opLate (t .0) (now (ready .entry)) op) delays m j (fireAt (now (value .entry)) op)
         s (scratch (now (reg .entry)) (now (val .entry)) (now (del .entry)) ps ws ns)
         r (scratch (now (reg .exit)) (now (val .exit)) (now (del .exit)) ps ws ns)) ⌝ }
 {
@@ -218,14 +242,17 @@ fn copies(
         return held(s);
     }
     let v = ticks::made(value, op.s1);
-    let results = result(delays, op.opcode, op.t1, v, s.results, reg, val, del);
+    let results = result(delays, op.opcode, op.t, v, s.results, reg, val, del);
+    let fault = s.fault;
+    let course = s.course;
+    let place = s.place;
     Seen {
         busy: s.busy,
-        fault: s.fault,
+        fault,
         results,
         stores: s.stores,
-        way: s.way,
-        place: s.place,
+        course,
+        place,
     }
 }
 
@@ -236,7 +263,7 @@ fn address(op: Op, value: &[u32; 288]) -> u32
     requires { ⌜ Formed op ⌝ }
     ensures { λ a. ⌜ a ≡ addressOf (fireAt (now (value .entry)) op) ⌝ }
 {
-    ops::address(ticks::made(value, op.s1), op.number)
+    ops::address(ticks::made(value, op.s1), op.offset)
 }
 
 // The result of a load from a.
@@ -254,13 +281,13 @@ fn load(
     requires { ⌜ Timely delays ⌝ }
     requires { ⌜ Results (now reg) (now val) (now del) n ⌝ }
     requires { ⌜ (n < 64) × (sizeOf (op .opcode) + a ≤ length (now memory)) ⌝ }
-    ensures { λ k. ⌜ Grown 1 (now (reg .entry)) (now (val .entry)) (now (del .entry)) n
+    ensures { λ k. ⌜ Noted 1 (now (reg .entry)) (now (val .entry)) (now (del .entry)) n
         (now (reg .exit)) (now (val .exit)) (now (del .exit)) k
-        (destIn delays (op .opcode) (op .t1) [])
-        (valueIn (op .t1) (loaded (op .opcode) (numberAt (sizeOf (op .opcode)) a (now (memory .entry)))) []) ⌝ }
+        (destIn delays (op .opcode) (op .t) [])
+        (valueIn (op .t) (loaded (op .opcode) (numberAt (sizeOf (op .opcode)) a (now (memory .entry)))) []) ⌝ }
 {
     let v = memory::load(memory, op.opcode, a);
-    result(delays, op.opcode, op.t1, v, n, reg, val, del)
+    result(delays, op.opcode, op.t, v, n, reg, val, del)
 }
 
 // A store of n bytes to a.
@@ -270,23 +297,31 @@ fn store(
     a: u32,
     n: u32,
     count: usize,
-    at: &mut [u32; 32],
-    word: &mut [u32; 32],
-    size: &mut [u32; 32],
+    offsets: &mut [u32; 32],
+    contents: &mut [u32; 32],
+    sizes: &mut [u32; 32],
 )
     requires { ⌜ Formed op ⌝ }
-    requires { ⌜ (length (now at) ≡ 32) × (length (now word) ≡ 32) × (length (now size) ≡ 32) × (count < 32) ⌝ }
-    ensures is { λ _. ⌜ storesIn (now (at .exit)) (now (word .exit)) (now (size .exit)) (count + 1)
-        ≡ storesIn (now (at .entry)) (now (word .entry)) (now (size .entry)) count
-        ++ (record { at = a; size = n; value = stored (op .opcode) (fireAt (now (value .entry)) op .z) } ∷ []) ⌝ }
-    ensures within { λ _. ⌜ ((m : ℕ) → Within a n m → Stores (now (at .entry)) (now (word .entry)) (now (size .entry)) count m
-        → Stores (now (at .exit)) (now (word .exit)) (now (size .exit)) (count + 1) m) ⌝ }
+    requires { ⌜ (length (now offsets) ≡ 32) × (length (now contents) ≡ 32) × (length (now sizes) ≡ 32) × (count < 32) ⌝ }
+    ensures is { λ _. ⌜ storesIn (now (offsets .exit)) (now (contents .exit)) (now (sizes .exit)) (count + 1)
+        ≡ storesIn (now (offsets .entry)) (now (contents .entry)) (now (sizes .entry)) count
+        ++ (record { at = a; size = n; value = stored (op .opcode) (fireAt (now (value .entry)) op .stored) } ∷ []) ⌝ }
+    ensures within { λ _. ⌜ ((m : ℕ) → Within a n m → Stores (now (offsets .entry)) (now (contents .entry)) (now (sizes .entry)) count m
+        → Stores (now (offsets .exit)) (now (contents .exit)) (now (sizes .exit)) (count + 1) m) ⌝ }
 {
-    let z = ticks::made(value, op.s3);
-    memory::note_store(at, word, size, count, a, ops::stored(op.opcode, z), n);
+    let v = ticks::made(value, op.stored);
+    memory::note_store(
+        offsets,
+        contents,
+        sizes,
+        count,
+        a,
+        ops::stored(op.opcode, v),
+        n,
+    );
 }
 
-// A load or a store; after a fault nothing is asked of it.
+// A load or a store where there was no fault before it.
 fn access(
     op: Op,
     value: &[u32; 288],
@@ -296,60 +331,60 @@ fn access(
     reg: &mut [u32; 64],
     val: &mut [u32; 64],
     del: &mut [u64; 64],
-    at: &mut [u32; 32],
-    word: &mut [u32; 32],
-    size: &mut [u32; 32],
+    offsets: &mut [u32; 32],
+    contents: &mut [u32; 32],
+    sizes: &mut [u32; 32],
 ) -> Seen
     requires { ⌜ Formed op ⌝ }
     requires { ⌜ Timely delays ⌝ }
-    requires { ⌜ Holds (length (now memory)) s (scratch (now reg) (now val) (now del) (now at) (now word) (now size)) ⌝ }
-    requires { ⌜ (s .results < 63) × (s .stores < 32) × (isMemory (op .opcode) ≡ true) ⌝ }
+    requires { ⌜ Holds (length (now memory)) s (scratch (now reg) (now val) (now del) (now offsets) (now contents) (now sizes)) ⌝ }
+    requires { ⌜ (s .results < 63) × (s .stores < 32) × (isMem (op .opcode) ≡ true) × (s .fault ≡ None) ⌝ }
     ensures { λ r. ⌜ ((j : ℕ) → Acts delays (now (memory .entry)) j (fireAt (now (value .entry)) op)
-        s (scratch (now (reg .entry)) (now (val .entry)) (now (del .entry)) (now (at .entry)) (now (word .entry)) (now (size .entry)))
-        r (scratch (now (reg .exit)) (now (val .exit)) (now (del .exit)) (now (at .exit)) (now (word .exit)) (now (size .exit)))) ⌝ }
+        s (scratch (now (reg .entry)) (now (val .entry)) (now (del .entry)) (now (offsets .entry)) (now (contents .entry)) (now (sizes .entry)))
+        r (scratch (now (reg .exit)) (now (val .exit)) (now (del .exit)) (now (offsets .exit)) (now (contents .exit)) (now (sizes .exit)))) ⌝ }
 {
-    if s.fault != 0 {
-        return s;
-    }
-    let a = address(op, value);
+    let fault = s.fault;
+    let course = s.course;
+    let place = s.place;
     let n = memory::size(op.opcode);
-    let fault = memory::fault(memory.len(), n, a);
-    if fault != 0 {
-        return Seen {
+    match memory::access_at(memory.len(), n, address(op, value)) {
+        Access::Refused(f) => Seen {
             busy: s.busy,
-            fault,
+            fault: FirstFault::First(f),
             results: s.results,
             stores: s.stores,
-            way: s.way,
-            place: s.place,
-        };
-    }
-    if op.opcode <= 56 {
-        let results = load(op, a, memory, delays, s.results, reg, val, del);
-        return Seen {
-            busy: s.busy,
-            fault: s.fault,
-            results,
-            stores: s.stores,
-            way: s.way,
-            place: s.place,
-        };
-    }
-    store(op, value, a, n, s.stores, at, word, size);
-    Seen {
-        busy: s.busy,
-        fault: s.fault,
-        results: s.results,
-        stores: s.stores + 1,
-        way: s.way,
-        place: s.place,
+            course,
+            place,
+        },
+        Access::To(a) => {
+            if op.opcode <= 56 {
+                let results = load(op, a, memory, delays, s.results, reg, val, del);
+                return Seen {
+                    busy: s.busy,
+                    fault,
+                    results,
+                    stores: s.stores,
+                    course,
+                    place,
+                };
+            }
+            store(op, value, a, n, s.stores, offsets, contents, sizes);
+            Seen {
+                busy: s.busy,
+                fault,
+                results: s.results,
+                stores: s.stores + 1,
+                course,
+                place,
+            }
+        }
     }
 }
 
-// A load or a store.
+// A load or a store; after a fault nothing is asked of it.
 fn accesses(
     op: Op,
-    t: u64,
+    t: Count,
     value: &[u32; 288],
     ready: &[u64; 288],
     memory: &[u8],
@@ -358,112 +393,116 @@ fn accesses(
     reg: &mut [u32; 64],
     val: &mut [u32; 64],
     del: &mut [u64; 64],
-    at: &mut [u32; 32],
-    word: &mut [u32; 32],
-    size: &mut [u32; 32],
+    offsets: &mut [u32; 32],
+    contents: &mut [u32; 32],
+    sizes: &mut [u32; 32],
 ) -> Seen
     requires { ⌜ Formed op ⌝ }
     requires { ⌜ Timely delays ⌝ }
-    requires { ⌜ Holds (length (now memory)) s (scratch (now reg) (now val) (now del) (now at) (now word) (now size)) ⌝ }
-    requires { ⌜ (s .results < 63) × (s .stores < 32) × (isMemory (op .opcode) ≡ true) ⌝ }
-    ensures { λ r. ⌜ ((j : ℕ) → Does (opLate t (now (ready .entry)) op) delays (now (memory .entry)) j (fireAt (now (value .entry)) op)
-        s (scratch (now (reg .entry)) (now (val .entry)) (now (del .entry)) (now (at .entry)) (now (word .entry)) (now (size .entry)))
-        r (scratch (now (reg .exit)) (now (val .exit)) (now (del .exit)) (now (at .exit)) (now (word .exit)) (now (size .exit)))) ⌝ }
+    requires { ⌜ Holds (length (now memory)) s (scratch (now reg) (now val) (now del) (now offsets) (now contents) (now sizes)) ⌝ }
+    requires { ⌜ (s .results < 63) × (s .stores < 32) × (isMem (op .opcode) ≡ true) ⌝ }
+    ensures { λ r. ⌜ ((j : ℕ) → Does (opLate (t .0) (now (ready .entry)) op) delays (now (memory .entry)) j (fireAt (now (value .entry)) op)
+        s (scratch (now (reg .entry)) (now (val .entry)) (now (del .entry)) (now (offsets .entry)) (now (contents .entry)) (now (sizes .entry)))
+        r (scratch (now (reg .exit)) (now (val .exit)) (now (del .exit)) (now (offsets .exit)) (now (contents .exit)) (now (sizes .exit)))) ⌝ }
 {
     if late(op, ready, t) {
         return held(s);
     }
-    access(op, value, memory, delays, s, reg, val, del, at, word, size)
+    let fault = s.fault;
+    match fault {
+        FirstFault::First(_) => s,
+        FirstFault::None => access(
+            op,
+            value,
+            memory,
+            delays,
+            s,
+            reg,
+            val,
+            del,
+            offsets,
+            contents,
+            sizes,
+        ),
+    }
 }
 
 // ---- where to go on
 
-// Where a control operation goes, with z in its branch register.
-fn control(op: Op, z: u32, end: Place) -> Turn
-    requires { ⌜ Formed op ⌝ }
-    requires { ⌜ isControl (op .opcode) ≡ true ⌝ }
-    ensures { λ r. ⌜ ((k : Next) → decided (r .way) (r .place) k ≡ nextBy (wayOf op) z (end .0) k) ⌝ }
+// A turn as a course and its place.
+struct Aim {
+    course: Course,
+    place: Place,
+}
+
+fn aimed(turn: Turn, end: Place) -> Aim
+    ensures { λ r. ⌜ turnIn (r .course) (r .place) ≡ turn ⌝ }
 {
-    if op.opcode == 0 {
-        if op.number == 1 {
-            return Turn { way: 2, place: 0 };
-        }
-        return Turn { way: 0, place: 0 };
-    }
-    if op.opcode <= 61 {
-        return Turn {
-            way: 1,
-            place: op.number as u64,
-        };
-    }
-    if z == 63 - op.opcode {
-        return Turn {
-            way: 1,
-            place: op.number as u64,
-        };
-    }
-    Turn {
-        way: 1,
-        place: end.0 as u64,
+    match turn {
+        Turn::Onward => Aim {
+            course: Course::Open,
+            place: end,
+        },
+        Turn::Stops => Aim {
+            course: Course::Stop,
+            place: end,
+        },
+        Turn::To(place) => Aim {
+            course: Course::Set,
+            place,
+        },
     }
 }
 
-// The first control operation decides.
-fn decide(op: Op, end: Place, value: &[u32; 288], way: u64, place: u64) -> Turn
+// Where an operation goes, from where those before it do: the first that decides it does.
+fn decide(op: Op, end: Place, value: &[u32; 288], course: Course, place: Place) -> Aim
     requires { ⌜ Formed op ⌝ }
-    requires { ⌜ isControl (op .opcode) ≡ true ⌝ }
-    ensures { λ r. ⌜ ((k : Next) → decided (r .way) (r .place) k
-        ≡ decided way place (nextBy (wayOf op) (fireAt (now (value .entry)) op .z) (end .0) k)) ⌝ }
+    ensures { λ r. ⌜ ((k : Next) → nextBy (turnIn (r .course) (r .place)) k
+        ≡ nextBy (turnIn course place) (nextBy (turnOf (op .way) (fireAt (now (value .entry)) op .b) end) k)) ⌝ }
 {
-    if way != 0 {
-        return Turn { way, place };
+    match course {
+        Course::Open => {
+            let way = op.way;
+            aimed(turn(way, ticks::made(value, op.b), end), end)
+        }
+        Course::Stop => Aim { course, place },
+        Course::Set => Aim { course, place },
     }
-    let z = ticks::made(value, op.s3);
-    control(op, z, end)
 }
 
 // A control operation.
-fn turns(op: Op, end: Place, t: u64, value: &[u32; 288], ready: &[u64; 288], s: Seen) -> Seen
+fn turns(op: Op, end: Place, t: Count, value: &[u32; 288], ready: &[u64; 288], s: Seen) -> Seen
     requires { ⌜ Formed op ⌝ }
-    requires { ⌜ isControl (op .opcode) ≡ true ⌝ }
+    requires { ⌜ isTurn (op .opcode) ≡ true ⌝ }
     ensures { λ r. ⌜ ((d : Delays) (m : List ℕ) (a : Scratch) → Holds (length m) s a
-        → Does (opLate t (now (ready .entry)) op) d m (end .0) (fireAt (now (value .entry)) op) s a r a) ⌝ }
+        → Does (opLate (t .0) (now (ready .entry)) op) d m (end .0) (fireAt (now (value .entry)) op) s a r a) ⌝ }
 {
     if late(op, ready, t) {
         return held(s);
     }
-    let w = decide(op, end, value, s.way, s.place);
+    let fault = s.fault;
+    let course = s.course;
+    let place = s.place;
+    let a = decide(op, end, value, course, place);
+    let course = a.course;
+    let place = a.place;
     Seen {
         busy: s.busy,
-        fault: s.fault,
+        fault,
         results: s.results,
         stores: s.stores,
-        way: w.way,
-        place: w.place,
+        course,
+        place,
     }
 }
 
 // ---- the pass
 
-// How many clusters are opened at syllable j, of those before it.
-fn opened_at(part: &[u8], j: usize, opened: u32) -> u32
-    requires { ⌜ (j < length (words (now part))) × (opened ≤ 4) ⌝ }
-    ensures { λ r. ⌜ r ≡ opened + bit (opens (getD (words (now (part .entry))) j 0)) ⌝ }
-{
-    if opens(syllable(part, Place(j))) {
-        opened + 1
-    } else {
-        opened
-    }
-}
-
-// Syllable j more. It is decoded and done by the range of its opcode, so that the compiled code tests it once.
+// One spot more. It is decoded and done by the range of its opcode, so that the compiled code tests it once.
 fn step(
-    part: &[u8],
-    j: usize,
-    opened: u32,
+    x: Spot,
     end: Place,
-    t: u64,
+    t: Count,
     value: &[u32; 288],
     ready: &[u64; 288],
     memory: &[u8],
@@ -472,22 +511,21 @@ fn step(
     reg: &mut [u32; 64],
     val: &mut [u32; 64],
     del: &mut [u64; 64],
-    at: &mut [u32; 32],
-    word: &mut [u32; 32],
-    size: &mut [u32; 32],
+    offsets: &mut [u32; 32],
+    contents: &mut [u32; 32],
+    sizes: &mut [u32; 32],
 ) -> Seen
-    requires { ⌜ (j < length (words (now part))) × (0 < opened) × (opened ≤ 4) ⌝ }
+    requires { ⌜ x .opened ≤ 4 ⌝ }
     requires { ⌜ Timely delays ⌝ }
-    requires { ⌜ Holds (length (now memory)) s (scratch (now reg) (now val) (now del) (now at) (now word) (now size)) ⌝ }
+    requires { ⌜ Holds (length (now memory)) s (scratch (now reg) (now val) (now del) (now offsets) (now contents) (now sizes)) ⌝ }
     requires { ⌜ (s .results < 63) × (s .stores < 32) ⌝ }
-    ensures { λ r. ⌜ (let o = decode (opened - 1) (getD (words (now (part .entry))) j 0) in
-        Does (opLate t (now (ready .entry)) o) delays (now (memory .entry)) (end .0) (fireAt (now (value .entry)) o)
-        s (scratch (now (reg .entry)) (now (val .entry)) (now (del .entry)) (now (at .entry)) (now (word .entry)) (now (size .entry)))
-        r (scratch (now (reg .exit)) (now (val .exit)) (now (del .exit)) (now (at .exit)) (now (word .exit)) (now (size .exit)))) ⌝ }
+    ensures { λ r. ⌜ Does (opLate (t .0) (now (ready .entry)) (operation x)) delays (now (memory .entry)) (end .0) (fireAt (now (value .entry)) (operation x))
+        s (scratch (now (reg .entry)) (now (val .entry)) (now (del .entry)) (now (offsets .entry)) (now (contents .entry)) (now (sizes .entry)))
+        r (scratch (now (reg .exit)) (now (val .exit)) (now (del .exit)) (now (offsets .exit)) (now (contents .exit)) (now (sizes .exit))) ⌝ }
 {
-    let w = syllable(part, Place(j));
+    let w = x.syllable;
     let o = opcode(w);
-    let c = opened - 1;
+    let c = cluster(x) as u32;
     if o == 0 {
         return turns(decode::still(w), end, t, value, ready, s);
     }
@@ -516,9 +554,9 @@ fn step(
             reg,
             val,
             del,
-            at,
-            word,
-            size,
+            offsets,
+            contents,
+            sizes,
         );
     }
     if o <= 60 {
@@ -537,11 +575,11 @@ fn step(
     turns(decode::jump(c, w), end, t, value, ready, s)
 }
 
-// All operations of an instruction, of which `part` has the syllables and `end` is the following place.
+// All operations of the instruction of this stretch, which `end` follows.
 pub fn collect(
-    part: &[u8],
+    stretch: &[u8],
     end: Place,
-    t: u64,
+    t: Count,
     value: &[u32; 288],
     ready: &[u64; 288],
     memory: &[u8],
@@ -549,33 +587,31 @@ pub fn collect(
     reg: &mut [u32; 64],
     val: &mut [u32; 64],
     del: &mut [u64; 64],
-    at: &mut [u32; 32],
-    word: &mut [u32; 32],
-    size: &mut [u32; 32],
+    offsets: &mut [u32; 32],
+    contents: &mut [u32; 32],
+    sizes: &mut [u32; 32],
 ) -> Seen
-    requires { ⌜ Own (words (now part)) ⌝ }
+    requires { ⌜ Own (spots (words (now stretch))) ⌝ }
     requires { ⌜ Timely delays ⌝ }
     requires { ⌜ Results (now reg) (now val) (now del) 0 ⌝ }
-    requires { ⌜ Stores (now at) (now word) (now size) 0 (length (now memory)) ⌝ }
-    ensures { λ r. ⌜ Kept (opLate t (now (ready .entry))) (fireAt (now (value .entry))) delays
-        (now (memory .entry)) (end .0) (map operation (spots (words (now (part .entry))))) r
-        (scratch (now (reg .exit)) (now (val .exit)) (now (del .exit)) (now (at .exit)) (now (word .exit)) (now (size .exit))) ⌝ }
+    requires { ⌜ Stores (now offsets) (now contents) (now sizes) 0 (length (now memory)) ⌝ }
+    ensures { λ r. ⌜ Gathered (opLate (t .0) (now (ready .entry))) (fireAt (now (value .entry))) delays
+        (now (memory .entry)) (end .0) (map operation (spots (words (now (stretch .entry))))) r
+        (scratch (now (reg .exit)) (now (val .exit)) (now (del .exit)) (now (offsets .exit)) (now (contents .exit)) (now (sizes .exit))) ⌝ }
 {
     let mut s = Seen {
-        busy: 0,
-        fault: 0,
+        busy: false,
+        fault: FirstFault::None,
         results: 0,
         stores: 0,
-        way: 0,
-        place: 0,
+        course: Course::Open,
+        place: end,
     };
-    let mut opened: u32 = 0;
-    for j in 0..part.len() / 4 {
-        opened = opened_at(part, j, opened);
+    let mut x = before_all();
+    for j in 0..stretch.len() / 4 {
+        x = next_spot(x, syllable(stretch, Slot(j)));
         s = step(
-            part,
-            j,
-            opened,
+            x,
             end,
             t,
             value,
@@ -586,9 +622,9 @@ pub fn collect(
             reg,
             val,
             del,
-            at,
-            word,
-            size,
+            offsets,
+            contents,
+            sizes,
         );
     }
     s

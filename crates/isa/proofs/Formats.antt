@@ -10,7 +10,7 @@ use Rattle.word.specs.Choice.{pick}
 use Rattle.word.proofs.Choice.{and-true, and-false}
 use Rattle.isa.specs.Syllable.{formatOf, within}
 use Rattle.isa.specs.declared.Format.{Format}
-use Rattle.isa.specs.declared.Format.the-variants.{Still, Two, One, Carry, Test, Select, Load, Store, Copy, Goto, Fork}
+use Rattle.isa.specs.declared.Format.the-variants.{Still, Two, One, Carry, Test, Select, Load, Store, Copy, Jump, Fork}
 
 -- the opcodes of a form
 abbrev pub Among : Format → ℕ → Type 0
@@ -23,7 +23,7 @@ Among Select o = (50 ≤ o) × (o ≤ 51)
 Among Load o = (52 ≤ o) × (o ≤ 56)
 Among Store o = (57 ≤ o) × (o ≤ 59)
 Among Copy o = o ≡ 60
-Among Goto o = o ≡ 61
+Among Jump o = o ≡ 61
 Among Fork o = 62 ≤ o
 
 pub within-range : (first last o : ℕ) → within first last o ≡ true → (first ≤ o) × (o ≤ last)
@@ -85,5 +85,5 @@ format-of Select o h = simp (not-zero o 49 (h .0), beyond o 49 (h .0), le-leb o 
 format-of Load o h = simp (not-zero o 51 (h .0), beyond o 51 (h .0), le-leb o 56 (h .1))
 format-of Store o h = simp (not-zero o 56 (h .0), beyond o 56 (h .0), le-leb o 59 (h .1))
 format-of Copy o h = rw h
-format-of Goto o h = rw h
+format-of Jump o h = rw h
 format-of Fork o h = simp (not-zero o 61 h, beyond o 61 h)

@@ -1,5 +1,5 @@
 -- Laws of a program's instructions: where they start, where the following one is, and which syllables they have.
-use mathlib.Core.Path.{_≡_, refl, sym, ap, _∙_}
+use mathlib.Core.Path.{_≡_, refl, sym, ap, subst, _∙_}
 use mathlib.Core.Logic.{⊎-elim}
 use mathlib.Core.Bool.{Bool, true, false, false≢true}
 use mathlib.Core.List.{List, [], _∷_, map}
@@ -12,17 +12,12 @@ use Rattle.word.specs.Choice.{pick, bit}
 use Rattle.word.proofs.Choice.{never-both, is-false}
 use Rattle.word.proofs.Lists.{getD-any}
 use Rattle.isa.specs.Syllable.{ends, opens}
-use Rattle.isa.specs.Program.{Spot, nowhere, spotsFrom, spots, spotAt, isStart, stretch, instructionAt, following, operation, operationsAt, cluster}
+use Rattle.isa.specs.Program.{nowhere, spotsFrom, spots, spotAt, isStart, Starts, stretch, instructionAt, following, operation, operationsAt, cluster, nextSpot, spotBefore}
 use Rattle.isa.specs.Decode.{decode}
 use Rattle.isa.specs.declared.Op.{Op}
+use Rattle.isa.specs.declared.Spot.{Spot}
 
 -- ---- the spots of a list of syllables
-
--- the spot of s after the spot x
-abbrev pub nextSpot : Spot → ℕ → Spot
-nextSpot x s =
-    let b = ends (x .syllable) in
-    record { first = b; opened = pick b 0 (x .opened) + bit (opens s); syllable = s }
 
 -- each spot has its syllable
 syllables : (f : Bool) (k : ℕ) (l : List ℕ) → map (λ (x : Spot). x .syllable) (spotsFrom f k l) ≡ l
@@ -63,6 +58,28 @@ spot-syllable p i = sym (List·getD-map (λ (x : Spot). x .syllable) (spots p) i
 pub spot-next : (p : List ℕ) (i : ℕ) → suc i < length p → spotAt p (suc i) ≡ nextSpot (spotAt p i) (getD p (suc i) 0)
 spot-next p i h = from-next true 0 p i _ h
 
+-- the walk: each spot comes from the one before it, and no more are opened than there are syllables
+pub spot-walk : (p : List ℕ) (i : ℕ) → i < length p → nextSpot (spotBefore p i) (getD p i 0) ≡ spotAt p i
+spot-walk [] zero h = absurd (not-suc-le-zero h)
+spot-walk (s ∷ ss) zero h = refl
+spot-walk p (suc i) h = sym (spot-next p i h)
+
+pub bit-one : (b : Bool) → bit b ≤ 1
+bit-one true = le-refl 1
+bit-one false = zero-le
+
+pick-below : (b : Bool) (k n : ℕ) → k ≤ n → pick b 0 k ≤ n
+pick-below true k n h = zero-le
+pick-below false k n h = h
+
+opened-step : (x : Spot) (s n : ℕ) → x .opened ≤ n → nextSpot x s .opened ≤ suc n
+opened-step x s n h = omega (arith, bit-one (opens s), pick-below (ends (x .syllable)) (x .opened) n h)
+
+pub walk-opened : (p : List ℕ) (i : ℕ) → i ≤ length p → spotBefore p i .opened ≤ i
+walk-opened p zero h = zero-le
+walk-opened p (suc i) h =
+    subst (λ (x : Spot). x .opened ≤ suc i) (spot-walk p i h) (opened-step (spotBefore p i) (getD p i 0) i (walk-opened p i (omega arith)))
+
 pub spots-take : (n : ℕ) (p : List ℕ) → spots (take n p) ≡ take n (spots p)
 spots-take n p = sym (from-take true 0 n p)
 
@@ -87,6 +104,9 @@ start-next p i h = ap (λ (x : Spot). x .first) (spot-next p i h) ∙ ap ends (s
 pub start-after : (p : List ℕ) (i : ℕ) → 0 < i → i < length p → isStart p i ≡ ends (getD p (i - 1) 0)
 start-after p zero a b = absurd (not-suc-le-zero a)
 start-after p (suc i) a b = let e : suc i - 1 ≡ i = omega arith in rw e (start-next p i b)
+
+pub starts : (p : List ℕ) → Starts p
+starts p = record { first = start-zero p; after = start-after p; outside = start-outside p }
 
 pub opened-next : (p : List ℕ) (i : ℕ) → suc i < length p
     → spotAt p (suc i) .opened ≡ pick (isStart p (suc i)) 0 (spotAt p i .opened) + bit (opens (getD p (suc i) 0))

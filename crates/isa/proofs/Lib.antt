@@ -3,5 +3,8 @@ pub mod Steps
 pub mod Formats
 pub mod Arms
 pub mod Decoded
-pub mod Limits
+pub mod Bounds
+pub mod Lowest
 pub mod Instructions
+pub mod Ways
+pub mod Rebuilt

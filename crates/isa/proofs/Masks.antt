@@ -6,7 +6,7 @@ use native.Mathlib.Omega.{arith}
 use borrow.Author.Tests.{lt-ltb, le-ltb}
 use lib.Bits.{bitAnd, and-mask}
 use lib.Pow.{pow-pos, ones-split, ones-lt, high}
-use Rattle.ops.specs.Arith.{widen}
+use Rattle.word.specs.Widen.{widen}
 use Rattle.isa.specs.Syllable.{bits}
 
 -- the mask: the ones of 32 bits, shifted until as many are left as the field has

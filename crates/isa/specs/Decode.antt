@@ -1,30 +1,29 @@
 -- What a syllable in cluster c asks for. No delay table is asked.
-use Prim.Native.Nat.{ℕ, _+_, _*_}
+use Prim.Native.Nat.{ℕ}
 use lib.Dec.{eqb}
 use Rattle.word.specs.Choice.{pick}
-use Rattle.ops.specs.Arith.{widen}
+use Rattle.word.specs.Widen.{widen}
 use Rattle.isa.specs.Syllable.{bits, opcode, formatOf}
+use Rattle.isa.specs.Register.{general, branch}
+use Rattle.isa.specs.Control.{wayAs}
 use Rattle.isa.specs.declared.Op.{Op}
+use Rattle.isa.specs.declared.Way.the-variants.{Along}
 use Rattle.isa.specs.declared.Format.{Format}
-use Rattle.isa.specs.declared.Format.the-variants.{Still, Two, One, Carry, Test, Select, Load, Store, Copy, Goto, Fork}
-
--- The registers of all clusters: 256 general, then 32 branch. "General register 0 of each cluster reads zero, discards writes and is never
--- in flight": they are one register, number 0, which also stands for no register.
-abbrev pub general : ℕ → ℕ → ℕ
-general c r = pick (eqb r 0) 0 (c * 64 + r)
-
-abbrev pub branch : ℕ → ℕ → ℕ
-branch c r = 256 + (c * 8 + r)
+use Rattle.isa.specs.declared.Format.the-variants.{Still, Two, One, Carry, Test, Select, Load, Store, Copy, Jump, Fork}
 
 -- "bit 11 set means s2 is bits 10..0, signed, -1,024 to 1,023, widened by sign"
-abbrev pub immediate : ℕ → ℕ
-immediate s = widen 11 (bits 10 0 s)
+abbrev pub immediateOf : ℕ → ℕ
+immediateOf s = widen 11 (bits 10 0 s)
 
 -- "the signed bits 11..0"
-abbrev pub offset : ℕ → ℕ
-offset s = widen 12 (bits 11 0 s)
+abbrev pub offsetOf : ℕ → ℕ
+offsetOf s = widen 12 (bits 11 0 s)
 
 module _ (c s : ℕ) where
+  abbrev o : ℕ
+  o = opcode s
+
+  -- "t is bits 23..18, s1 bits 17..12"; s2 as a register, and b
   abbrev t : ℕ
   t = general c (bits 23 18 s)
 
@@ -37,26 +36,26 @@ module _ (c s : ℕ) where
   abbrev b : ℕ
   b = branch c (bits 11 9 s)
 
-  -- the opcode, three registers read, a number, two destinations
-  abbrev op : ℕ → ℕ → ℕ → ℕ → ℕ → ℕ → Op
-  op x y z n d e = record { opcode = opcode s; s1 = x; s2 = y; s3 = z; number = n; t1 = d; t2 = e }
-
-  -- s2 is a register or a number
+  -- "bit 11 clear means s2 is register bits 5..0; bit 11 set means s2 is bits 10..0, signed"
   abbrev pub twoTo : ℕ → Op
-  twoTo d = pick (eqb (bits 11 11 s) 0) (op s1 s2 0 0 d 0) (op s1 0 0 (immediate s) d 0)
+  twoTo d =
+      pick (eqb (bits 11 11 s) 0)
+      (record { opcode = o; s1 = s1; s2 = s2; b = 0; stored = 0; immediate = 0; offset = 0; t = d; carry = 0; way = Along })
+      (record { opcode = o; s1 = s1; s2 = 0; b = 0; stored = 0; immediate = immediateOf s; offset = 0; t = d; carry = 0; way = Along })
 
+  -- register 0 where there is none, 0 where there is no number
   abbrev pub decodeAs : Format → Op
-  decodeAs Still = op 0 0 0 (bits 23 18 s) 0 0
+  decodeAs Still = record { opcode = o; s1 = 0; s2 = 0; b = 0; stored = 0; immediate = 0; offset = 0; t = 0; carry = 0; way = wayAs s Still }
   decodeAs Two = twoTo t
-  decodeAs One = op s1 0 0 0 t 0
-  decodeAs Carry = op s1 s2 b 0 t (branch c (bits 8 6 s))
+  decodeAs One = record { opcode = o; s1 = s1; s2 = 0; b = 0; stored = 0; immediate = 0; offset = 0; t = t; carry = 0; way = Along }
+  decodeAs Carry = record { opcode = o; s1 = s1; s2 = s2; b = b; stored = 0; immediate = 0; offset = 0; t = t; carry = branch c (bits 8 6 s); way = Along }
   decodeAs Test = twoTo (branch c (bits 20 18 s))
-  decodeAs Select = op s1 s2 b 0 t 0
-  decodeAs Load = op s1 0 0 (offset s) t 0
-  decodeAs Store = op s1 0 t (offset s) 0 0
-  decodeAs Copy = op (general (bits 1 0 s) (bits 17 12 s)) 0 0 0 t 0
-  decodeAs Goto = op 0 0 0 (bits 23 0 s) 0 0
-  decodeAs Fork = op 0 0 (branch c (bits 23 21 s)) (bits 20 0 s) 0 0
+  decodeAs Select = record { opcode = o; s1 = s1; s2 = s2; b = b; stored = 0; immediate = 0; offset = 0; t = t; carry = 0; way = Along }
+  decodeAs Load = record { opcode = o; s1 = s1; s2 = 0; b = 0; stored = 0; immediate = 0; offset = offsetOf s; t = t; carry = 0; way = Along }
+  decodeAs Store = record { opcode = o; s1 = s1; s2 = 0; b = 0; stored = t; immediate = 0; offset = offsetOf s; t = 0; carry = 0; way = Along }
+  decodeAs Copy = record { opcode = o; s1 = general (bits 1 0 s) (bits 17 12 s); s2 = 0; b = 0; stored = 0; immediate = 0; offset = 0; t = t; carry = 0; way = Along }
+  decodeAs Jump = record { opcode = o; s1 = 0; s2 = 0; b = 0; stored = 0; immediate = 0; offset = 0; t = 0; carry = 0; way = wayAs s Jump }
+  decodeAs Fork = record { opcode = o; s1 = 0; s2 = 0; b = branch c (bits 23 21 s); stored = 0; immediate = 0; offset = 0; t = 0; carry = 0; way = wayAs s Fork }
 
   unfoldable pub decode : Op
   decode = decodeAs (formatOf (opcode s))

@@ -1,21 +1,17 @@
 -- Instructions: where they start, which syllables they have, and the cluster of each. The machine's definitions see a program only
 -- through `operationsAt`, `following` and `isStart`.
+use mathlib.Core.Path.{_≡_}
 use mathlib.Core.Bool.{Bool, true, false}
 use mathlib.Core.List.{List, [], _∷_, map}
-use Prim.Native.Nat.{ℕ, _+_, _-_}
+use Prim.Native.Nat.{ℕ, zero, suc, _+_, _-_, _≤_, _<_}
 use lib.ListN.{getD, length, drop}
 use Rattle.word.specs.Choice.{pick, bit}
 use Rattle.isa.specs.Syllable.{ends, opens}
 use Rattle.isa.specs.Decode.{decode}
 use Rattle.isa.specs.declared.Op.{Op}
+use Rattle.isa.specs.declared.Spot.{Spot}
 
--- a syllable as it stands in a program: whether it is its instruction's first, and how many clusters are opened there with it
-pub record Spot : Type 0 where
-  pub first : Bool
-  pub opened : ℕ
-  pub syllable : ℕ
-
--- from a syllable on: whether it is a first one, and how many clusters its instruction opened before it
+-- from a syllable on: whether it is its instruction's first, and how many clusters that one opened before it
 abbrev pub spotsFrom : Bool → ℕ → List ℕ → List Spot
 spotsFrom first opened [] = []
 spotsFrom first opened (s ∷ ss) =
@@ -40,6 +36,12 @@ cluster x = x .opened - 1
 abbrev pub isStart : List ℕ → ℕ → Bool
 isStart program i = spotAt program i .first
 
+-- which is to say: "An index inside the program starts an instruction exactly if it is 0 or the syllable before it has bit 31."
+pub record Starts (program : List ℕ) : Type 0 where
+  pub first : 0 < length program → isStart program 0 ≡ true
+  pub after : (i : ℕ) → 0 < i → i < length program → isStart program i ≡ ends (getD program (i - 1) 0)
+  pub outside : (i : ℕ) → length program ≤ i → isStart program i ≡ false
+
 -- up to the end bit
 abbrev pub stretch : List Spot → List Spot
 stretch [] = []
@@ -56,3 +58,13 @@ operation x = decode (cluster x) (x .syllable)
 
 abbrev pub operationsAt : List ℕ → ℕ → List Op
 operationsAt program i = map operation (instructionAt program i)
+
+-- a walk from syllable to syllable: the spot of s after the spot x; before the first one stands an end
+abbrev pub nextSpot : Spot → ℕ → Spot
+nextSpot x s =
+    let b = ends (x .syllable) in
+    record { first = b; opened = pick b 0 (x .opened) + bit (opens s); syllable = s }
+
+abbrev pub spotBefore : List ℕ → ℕ → Spot
+spotBefore program zero = record { first = false; opened = 0; syllable = 0x80000000 }
+spotBefore program (suc i) = spotAt program i

@@ -4,7 +4,7 @@ use Prim.Native.Nat.{ℕ, suc, _-_, _/_, _%_, _^_}
 use lib.Dec.{eqb, leb}
 use Rattle.word.specs.Choice.{pick}
 use Rattle.isa.specs.declared.Format.{Format}
-use Rattle.isa.specs.declared.Format.the-variants.{Still, Two, One, Carry, Test, Select, Load, Store, Copy, Goto, Fork}
+use Rattle.isa.specs.declared.Format.the-variants.{Still, Two, One, Carry, Test, Select, Load, Store, Copy, Jump, Fork}
 
 -- bits hi..lo of a syllable
 abbrev pub bits : ℕ → ℕ → ℕ → ℕ
@@ -33,26 +33,20 @@ formatOf o =
     (pick (leb o 56) Load  -- 52-56
     (pick (leb o 59) Store  -- 57-59
     (pick (leb o 60) Copy  -- 60
-    (pick (leb o 61) Goto Fork))))))))))  -- 61; 62, 63
+    (pick (leb o 61) Jump Fork))))))))))  -- 61; 62, 63
 
--- "ALU: 1-23 and 30-51. MUL: 24-29. MEM: 52-59. COPY: 60. Control: stop, 61-63."
+-- "ALU: 1-23 and 30-51. MUL: 24-29. MEM: 52-59. COPY: 60.", of an opcode
 abbrev pub within : ℕ → ℕ → ℕ → Bool
 within first last o = leb first o && leb o last
 
 abbrev pub isAlu : ℕ → Bool
-isAlu s = within 1 23 (opcode s) || within 30 51 (opcode s)
+isAlu o = within 1 23 o || within 30 51 o
 
 abbrev pub isMul : ℕ → Bool
-isMul s = within 24 29 (opcode s)
+isMul o = within 24 29 o
 
 abbrev pub isMem : ℕ → Bool
-isMem s = within 52 59 (opcode s)
+isMem o = within 52 59 o
 
 abbrev pub isCopy : ℕ → Bool
-isCopy s = eqb (opcode s) 60
-
-abbrev pub isStop : ℕ → Bool
-isStop s = eqb (opcode s) 0 && eqb (bits 23 18 s) 1
-
-abbrev pub isControl : ℕ → Bool
-isControl s = isStop s || within 61 63 (opcode s)
+isCopy o = eqb o 60

@@ -24,13 +24,13 @@ module _ (bytes : List ℕ) where
   abbrev pub outside : ℕ → ℕ → ℕ → Bool
   outside least most x = ltb x least || ltb most x
 
-  abbrev pub clusterBreaks : ℕ → Bool
-  clusterBreaks k =
+  abbrev pub badUnits : ℕ → Bool
+  badUnits k =
       outside 1 8 (unit 0 k) || outside 0 8 (unit 1 k) || outside 0 4 (unit 2 k) || outside 0 4 (unit 3 k) || outside 0 4 (unit 4 k)
 
-  unfoldable pub tableBreaks : Bool
-  tableBreaks =
-      outside 1 4 clustersOf || not (eqb (length bytes) (6 + 5 * clustersOf)) || anyBelow clusterBreaks clustersOf
+  unfoldable pub badTable : Bool
+  badTable =
+      outside 1 4 clustersOf || not (eqb (length bytes) (6 + 5 * clustersOf)) || anyBelow badUnits clustersOf
       || anyBelow (λ j. outside 1 8 (delay j)) 5
 
   -- a count of each of four clusters, 0 from C up

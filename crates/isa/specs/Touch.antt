@@ -1,23 +1,27 @@
 -- What an instruction reads and writes, with its delays, and where it goes on.
 use mathlib.Core.List.{List, [], _∷_, map}
-use Prim.Native.Nat.{ℕ, _-_}
+use Prim.Native.Nat.{ℕ}
 use lib.Dec.{eqb, leb}
 use Rattle.word.specs.Choice.{pick}
 use Rattle.vliw.specs.Machine.{Dest}
+use Rattle.isa.specs.Syllable.{isAlu, isMul, isMem}
 use Rattle.isa.specs.declared.Op.{Op}
+use Rattle.isa.specs.declared.Way.{Way}
+use Rattle.isa.specs.declared.Way.the-variants.{Along, Stop, Goto, Branch}
+use Rattle.isa.specs.declared.Nexts.{Nexts}
+use Rattle.isa.specs.declared.Nexts.the-variants.{Nowhere, One, Two}
 use Rattle.isa.specs.declared.Delays.{Delays}
 
 -- "Delays go by class, but every branch register result has delay CMPB."
 abbrev pub delayOf : Delays → ℕ → ℕ → ℕ
 delayOf d opcode register =
     pick (leb 256 register) (d .cmpb)
-    (pick (leb opcode 23) (d .alu)
-    (pick (leb opcode 29) (d .mul) (pick (leb opcode 51) (d .alu) (pick (leb opcode 59) (d .load) (d .copy)))))
+    (pick (isAlu opcode) (d .alu) (pick (isMul opcode) (d .mul) (pick (isMem opcode) (d .load) (d .copy))))
 
 -- the registers read; number 0 where there is none, which is never in flight
 abbrev pub reads : List Op → List ℕ
 reads [] = []
-reads (o ∷ os) = o .s1 ∷ o .s2 ∷ o .s3 ∷ reads os
+reads (o ∷ os) = o .s1 ∷ o .s2 ∷ o .b ∷ o .stored ∷ reads os
 
 -- a result: its register and the opcode that makes it; a destination in register 0 is none
 pub record Result : Type 0 where
@@ -30,7 +34,7 @@ resultIn register opcode more = pick (eqb register 0) more (record { register = 
 -- by syllable, addcg's general one before its branch one
 abbrev pub results : List Op → List Result
 results [] = []
-results (o ∷ os) = let more = results os in resultIn (o .t1) (o .opcode) (resultIn (o .t2) (o .opcode) more)
+results (o ∷ os) = let more = results os in resultIn (o .t) (o .opcode) (resultIn (o .carry) (o .opcode) more)
 
 abbrev pub destinations : List Op → List ℕ
 destinations os = map (λ (r : Result). r .register) (results os)
@@ -38,27 +42,19 @@ destinations os = map (λ (r : Result). r .register) (results os)
 abbrev pub dests : Delays → List Op → List Dest
 dests d os = map (λ (r : Result). record { reg = r .register; delay = delayOf d (r .opcode) (r .register) }) (results os)
 
--- the way an operation goes: along with the others, nowhere, to a target, or there if its branch register holds the wanted value
-pub data Way : Type 0 where
-  along : Way
-  nowhere : Way
-  to : ℕ → Way
-  fork : ℕ → ℕ → Way
-
--- br is 62 and taken on 1, brf is 63 and taken on 0
-abbrev pub wayOf : Op → Way
-wayOf o =
-    pick (eqb (o .opcode) 0) (pick (eqb (o .number) 1) nowhere along)
-    (pick (leb (o .opcode) 60) along
-    (pick (leb (o .opcode) 61) (to (o .number)) (fork (63 - o .opcode) (o .number))))
-
 -- "goto, its target; br and brf, target and following; stop, none; others, the following one"
 abbrev pub nextsBy : Way → ℕ → List ℕ → List ℕ
-nextsBy along following others = others
-nextsBy nowhere following others = []
-nextsBy (to target) following others = target ∷ []
-nextsBy (fork wanted target) following others = target ∷ following ∷ []
+nextsBy Along following others = others
+nextsBy Stop following others = []
+nextsBy (Goto target) following others = target .0 ∷ []
+nextsBy (Branch wanted target) following others = target .0 ∷ following ∷ []
 
 abbrev pub nexts : ℕ → List Op → List ℕ
 nexts following [] = following ∷ []
-nexts following (o ∷ os) = nextsBy (wayOf o) following (nexts following os)
+nexts following (o ∷ os) = nextsBy (o .way) following (nexts following os)
+
+-- the nexts, as the code gives them
+abbrev pub listed : Nexts → List ℕ
+listed Nowhere = []
+listed (One i) = i .0 ∷ []
+listed (Two i j) = i .0 ∷ j .0 ∷ []

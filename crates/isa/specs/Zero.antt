@@ -4,7 +4,7 @@ use Prim.Native.Nat.{ℕ}
 use lib.Dec.{eqb, ltb}
 use Rattle.isa.specs.Syllable.{bits, opcode, formatOf}
 use Rattle.isa.specs.declared.Format.{Format}
-use Rattle.isa.specs.declared.Format.the-variants.{Still, Two, One, Carry, Test, Select, Load, Store, Copy, Goto, Fork}
+use Rattle.isa.specs.declared.Format.the-variants.{Still, Two, One, Carry, Test, Select, Load, Store, Copy, Jump, Fork}
 
 abbrev pub set : ℕ → Bool
 set x = not (eqb x 0)
@@ -13,18 +13,18 @@ set x = not (eqb x 0)
 abbrev pub besideRegister : ℕ → Bool
 besideRegister s = eqb (bits 11 11 s) 0 && set (bits 10 6 s)
 
-abbrev pub strayAs : Format → ℕ → Bool
-strayAs Still s = ltb 1 (bits 23 18 s) || set (bits 17 0 s)
-strayAs Two s = besideRegister s
-strayAs One s = set (bits 11 0 s)
-strayAs Carry s = false
-strayAs Test s = set (bits 23 21 s) || besideRegister s
-strayAs Select s = set (bits 8 6 s)
-strayAs Load s = false
-strayAs Store s = false
-strayAs Copy s = set (bits 11 2 s)
-strayAs Goto s = false
-strayAs Fork s = false
+abbrev pub badBitsAs : Format → ℕ → Bool
+badBitsAs Still s = ltb 1 (bits 23 18 s) || set (bits 17 0 s)
+badBitsAs Two s = besideRegister s
+badBitsAs One s = set (bits 11 0 s)
+badBitsAs Carry s = false
+badBitsAs Test s = set (bits 23 21 s) || besideRegister s
+badBitsAs Select s = set (bits 8 6 s)
+badBitsAs Load s = false
+badBitsAs Store s = false
+badBitsAs Copy s = set (bits 11 2 s)
+badBitsAs Jump s = false
+badBitsAs Fork s = false
 
-unfoldable pub stray : ℕ → Bool
-stray s = strayAs (formatOf (opcode s)) s
+unfoldable pub badBits : ℕ → Bool
+badBits s = badBitsAs (formatOf (opcode s)) s

@@ -2,8 +2,12 @@
 ghost use mathlib.Core.Path.{_≡_};
 ghost use Prim.Native.Nat.{ℕ, _+_, _≤_, _<_};
 ghost use Rattle.isa.specs.Syllable.{bits, opcode};
-ghost use Rattle.isa.specs.Decode.{general, branch, immediate, offset, twoTo, decode};
+ghost use Rattle.isa.specs.Register.{general, branch};
+ghost use Rattle.isa.specs.Decode.{immediateOf, offsetOf, twoTo, decode};
+ghost use Rattle.isa.specs.declared.Way.the-variants.{Along};
 use crate::Op;
+use crate::Way;
+use crate::control;
 use crate::syllable::bits;
 use crate::syllable::holds;
 use crate::syllable::opcode;
@@ -43,7 +47,7 @@ fn branch_at(c: u32, s: u32, lo: u32) -> u32
 
 // Bits 10..0, signed.
 pub fn immediate(s: u32) -> u32
-    ensures { λ r. ⌜ r ≡ immediate s ⌝ }
+    ensures { λ r. ⌜ r ≡ immediateOf s ⌝ }
 {
     let low = bits(s, 10, 0);
     if low < 0x400 { low } else { low + 0xffff_f800 }
@@ -51,38 +55,77 @@ pub fn immediate(s: u32) -> u32
 
 // Bits 11..0, signed.
 pub fn offset(s: u32) -> u32
-    ensures { λ r. ⌜ r ≡ offset s ⌝ }
+    ensures { λ r. ⌜ r ≡ offsetOf s ⌝ }
 {
     let low = bits(s, 11, 0);
     if low < 0x800 { low } else { low + 0xffff_f000 }
 }
 
-// The opcode, three registers read, a number, two destinations.
-fn make(opcode: u32, s1: u32, s2: u32, s3: u32, number: u32, t1: u32, t2: u32) -> Op
-    ensures { λ r. ⌜ r ≡ record { opcode = opcode; s1 = s1; s2 = s2; s3 = s3; number = number; t1 = t1; t2 = t2 } ⌝ }
+// What computes: three registers or two and an immediate, and a destination.
+fn computing(opcode: u32, s1: u32, s2: u32, b: u32, immediate: u32, t: u32, carry: u32) -> Op
+    ensures { λ r. ⌜ r ≡ record { opcode = opcode; s1 = s1; s2 = s2; b = b; stored = 0; immediate = immediate; offset = 0; t = t; carry = carry; way = Along } ⌝ }
 {
     Op {
         opcode,
         s1,
         s2,
-        s3,
-        number,
-        t1,
-        t2,
+        b,
+        stored: 0,
+        immediate,
+        offset: 0,
+        t,
+        carry,
+        way: Way::Along,
+    }
+}
+
+// A load or a store.
+fn accessing(opcode: u32, s1: u32, stored: u32, offset: u32, t: u32) -> Op
+    ensures { λ r. ⌜ r ≡ record { opcode = opcode; s1 = s1; s2 = 0; b = 0; stored = stored; immediate = 0; offset = offset; t = t; carry = 0; way = Along } ⌝ }
+{
+    Op {
+        opcode,
+        s1,
+        s2: 0,
+        b: 0,
+        stored,
+        immediate: 0,
+        offset,
+        t,
+        carry: 0,
+        way: Way::Along,
+    }
+}
+
+// What goes a way, by a branch register or none.
+fn going(opcode: u32, b: u32, way: Way) -> Op
+    ensures { λ r. ⌜ r ≡ record { opcode = opcode; s1 = 0; s2 = 0; b = b; stored = 0; immediate = 0; offset = 0; t = 0; carry = 0; way = way } ⌝ }
+{
+    Op {
+        opcode,
+        s1: 0,
+        s2: 0,
+        b,
+        stored: 0,
+        immediate: 0,
+        offset: 0,
+        t: 0,
+        carry: 0,
+        way,
     }
 }
 
 // s2 is a register or a number.
-fn two(c: u32, s: u32, t1: u32) -> Op
+fn two(c: u32, s: u32, t: u32) -> Op
     requires { ⌜ c < 4 ⌝ }
-    ensures { λ r. ⌜ r ≡ twoTo c s t1 ⌝ }
+    ensures { λ r. ⌜ r ≡ twoTo c s t ⌝ }
 {
     let o = opcode(s);
     let s1 = general_at(c, s, 12);
     if holds(s, 11, 11, 0) {
-        make(o, s1, general_at(c, s, 0), 0, 0, t1, 0)
+        computing(o, s1, general_at(c, s, 0), 0, 0, t, 0)
     } else {
-        make(o, s1, 0, 0, immediate(s), t1, 0)
+        computing(o, s1, 0, 0, immediate(s), t, 0)
     }
 }
 
@@ -95,7 +138,7 @@ fn narrow(c: u32, s: u32) -> Op
     let t = general_at(c, s, 18);
     let s1 = general_at(c, s, 12);
     if o == 23 {
-        make(
+        computing(
             o,
             s1,
             general_at(c, s, 0),
@@ -105,7 +148,7 @@ fn narrow(c: u32, s: u32) -> Op
             branch_at(c, s, 6),
         )
     } else {
-        make(o, s1, 0, 0, 0, t, 0)
+        computing(o, s1, 0, 0, 0, t, 0)
     }
 }
 
@@ -115,7 +158,7 @@ pub fn compute(c: u32, s: u32) -> Op
     ensures { λ r. ⌜ r ≡ decode c s ⌝ }
 {
     let o = opcode(s);
-    if within(19, 23, s) {
+    if within(19, 23, o) {
         return narrow(c, s);
     }
     if o <= 39 {
@@ -124,7 +167,7 @@ pub fn compute(c: u32, s: u32) -> Op
     if o <= 49 {
         return two(c, s, branch_at(c, s, 18));
     }
-    make(
+    computing(
         o,
         general_at(c, s, 12),
         general_at(c, s, 0),
@@ -144,9 +187,9 @@ pub fn access(c: u32, s: u32) -> Op
     let t = general_at(c, s, 18);
     let s1 = general_at(c, s, 12);
     if o <= 56 {
-        make(o, s1, 0, 0, offset(s), t, 0)
+        accessing(o, s1, 0, offset(s), t)
     } else {
-        make(o, s1, 0, t, offset(s), 0, 0)
+        accessing(o, s1, t, offset(s), 0)
     }
 }
 
@@ -155,7 +198,7 @@ pub fn copy(c: u32, s: u32) -> Op
     requires { ⌜ (c < 4) × (opcode s ≡ 60) ⌝ }
     ensures { λ r. ⌜ r ≡ decode c s ⌝ }
 {
-    make(
+    computing(
         opcode(s),
         general_at(bits(s, 1, 0), s, 12),
         0,
@@ -171,7 +214,7 @@ pub fn still(s: u32) -> Op
     requires { ⌜ opcode s ≡ 0 ⌝ }
     ensures { λ r. ⌜ ((c : ℕ) → r ≡ decode c s) ⌝ }
 {
-    make(opcode(s), 0, 0, 0, bits(s, 23, 18), 0, 0)
+    going(opcode(s), 0, control::still(s))
 }
 
 // Opcodes 61 to 63.
@@ -181,9 +224,9 @@ pub fn jump(c: u32, s: u32) -> Op
 {
     let o = opcode(s);
     if o <= 61 {
-        make(o, 0, 0, 0, bits(s, 23, 0), 0, 0)
+        going(o, 0, control::goto(s))
     } else {
-        make(o, 0, 0, branch_at(c, s, 21), bits(s, 20, 0), 0, 0)
+        going(o, branch_at(c, s, 21), control::fork(s))
     }
 }
 

@@ -1,17 +1,28 @@
-// The encoding: what a syllable's bits say, and how syllables make instructions.
+// The encoding: what a syllable's bits say, how syllables make instructions, and where a control operation goes.
+pub mod control;
 pub mod decode;
 pub mod program;
+pub mod stretch;
 pub mod syllable;
 pub mod tables;
 pub mod touch;
 mod truth;
 pub mod zero;
 
-// A syllable's index.
+// A syllable's index in the program.
 pub struct Place(pub usize);
+
+// A syllable's index in its instruction's stretch.
+pub struct Slot(pub usize);
 
 // A count of executed instructions.
 pub struct Count(pub u64);
+
+// The lowest place that passes a test.
+pub enum Found {
+    At(Place),
+    Nothing,
+}
 
 // The form of an opcode: what its fields are.
 pub enum Format {
@@ -24,19 +35,52 @@ pub enum Format {
     Load,
     Store,
     Copy,
-    Goto,
+    Jump,
     Fork,
 }
 
-// A syllable, decoded: three registers that it reads, a number, two destinations. Register 0 stands for none.
+// A syllable as it stands in a program: whether it is its instruction's first, and how many clusters are opened there with it.
+pub struct Spot {
+    pub first: bool,
+    pub opened: usize,
+    pub syllable: u32,
+}
+
+// The way that a syllable goes: along with the others, nowhere, to a target, or there if its branch register holds the wanted value.
+pub enum Way {
+    Along,
+    Stop,
+    Goto(Place),
+    Branch(u32, Place),
+}
+
+// Where an operation sends its instruction, once it runs: it leaves that to the others, it stops, or it goes to a place.
+pub enum Turn {
+    Onward,
+    Stops,
+    To(Place),
+}
+
+// Where an instruction may go on.
+pub enum Nexts {
+    Nowhere,
+    One(Place),
+    Two(Place, Place),
+}
+
+// A syllable, decoded. Registers by number, where 0 stands for none: s1, s2, b (or a branch's condition) and a store's register are
+// read, t and addcg's carry are written. The immediate stands in for s2; the offset is added to s1 for an address.
 pub struct Op {
     pub opcode: u32,
     pub s1: u32,
     pub s2: u32,
-    pub s3: u32,
-    pub number: u32,
-    pub t1: u32,
-    pub t2: u32,
+    pub b: u32,
+    pub stored: u32,
+    pub immediate: u32,
+    pub offset: u32,
+    pub t: u32,
+    pub carry: u32,
+    pub way: Way,
 }
 
 // The five delays.

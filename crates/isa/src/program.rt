@@ -1,9 +1,10 @@
 // A program as bytes: its syllables, and where its instructions start.
 ghost use mathlib.Core.Path.{_≡_};
-ghost use Prim.Native.Nat.{_<_};
+ghost use Prim.Native.Nat.{ℕ, _<_};
+ghost use mathlib.Core.List.{List};
 ghost use lib.ListN.{length, getD};
 ghost use Rattle.word.specs.Bytes.{words};
-ghost use Rattle.isa.specs.Program.{isStart, following};
+ghost use Rattle.isa.specs.Program.{isStart, following, Starts};
 use crate::Place;
 use word::number::word_at;
 
@@ -41,3 +42,8 @@ pub fn is_start(program: &[u8], at: Place) -> bool
     }
     i.0 == at.0
 }
+
+// Where instructions start, in plain words. The function does nothing: its promise is the theorem, so that nobody drops it unseen.
+pub fn starts()
+    ensures { λ _. ⌜ ((program : List ℕ) → Starts program) ⌝ }
+{}

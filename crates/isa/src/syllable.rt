@@ -1,10 +1,9 @@
 // The fields of a syllable, by shifts and masks, and what its opcode asks for.
 ghost use mathlib.Core.Path.{_≡_};
 ghost use Prim.Native.Nat.{_≤_};
-ghost use Rattle.isa.specs.Syllable.{bits, ends, opens, opcode, formatOf, isAlu, isMul, isMem, isCopy, isStop, isControl, within};
+ghost use Rattle.isa.specs.Syllable.{bits, ends, opens, opcode, formatOf, isAlu, isMul, isMem, isCopy, within};
 ghost use lib.Dec.{eqb};
 use crate::Format;
-use crate::truth::both;
 use crate::truth::either;
 
 // Bits hi..lo.
@@ -78,53 +77,38 @@ pub fn format(o: u32) -> Format
         return Format::Copy;
     }
     if o <= 61 {
-        return Format::Goto;
+        return Format::Jump;
     }
     Format::Fork
 }
 
-// Whether the opcode is one of first..last.
-pub fn within(first: u32, last: u32, s: u32) -> bool
-    ensures { λ r. ⌜ r ≡ within first last (opcode s) ⌝ }
+// Whether opcode o is one of first..last.
+pub fn within(first: u32, last: u32, o: u32) -> bool
+    ensures { λ r. ⌜ r ≡ within first last o ⌝ }
 {
-    let o = opcode(s);
     first <= o && o <= last
 }
 
-pub fn is_alu(s: u32) -> bool
-    ensures { λ r. ⌜ r ≡ isAlu s ⌝ }
+pub fn is_alu(o: u32) -> bool
+    ensures { λ r. ⌜ r ≡ isAlu o ⌝ }
 {
-    either(within(1, 23, s), within(30, 51, s))
+    either(within(1, 23, o), within(30, 51, o))
 }
 
-pub fn is_mul(s: u32) -> bool
-    ensures { λ r. ⌜ r ≡ isMul s ⌝ }
+pub fn is_mul(o: u32) -> bool
+    ensures { λ r. ⌜ r ≡ isMul o ⌝ }
 {
-    within(24, 29, s)
+    within(24, 29, o)
 }
 
-pub fn is_mem(s: u32) -> bool
-    ensures { λ r. ⌜ r ≡ isMem s ⌝ }
+pub fn is_mem(o: u32) -> bool
+    ensures { λ r. ⌜ r ≡ isMem o ⌝ }
 {
-    within(52, 59, s)
+    within(52, 59, o)
 }
 
-// Opcode 60.
-pub fn is_copy(s: u32) -> bool
-    ensures { λ r. ⌜ r ≡ isCopy s ⌝ }
+pub fn is_copy(o: u32) -> bool
+    ensures { λ r. ⌜ r ≡ isCopy o ⌝ }
 {
-    holds(s, 29, 24, 60)
-}
-
-// Opcode 0 with 1 in bits 23..18.
-pub fn is_stop(s: u32) -> bool
-    ensures { λ r. ⌜ r ≡ isStop s ⌝ }
-{
-    both(holds(s, 29, 24, 0), holds(s, 23, 18, 1))
-}
-
-pub fn is_control(s: u32) -> bool
-    ensures { λ r. ⌜ r ≡ isControl s ⌝ }
-{
-    either(is_stop(s), within(61, 63, s))
+    o == 60
 }

@@ -4,7 +4,7 @@ ghost use lib.Dec.{ltb};
 ghost use lib.ListN.{getD};
 ghost use Rattle.word.specs.Choice.{pick};
 ghost use Rattle.word.specs.Lists.{anyBelow};
-ghost use Rattle.isa.specs.Table.{clustersOf, unit, delay, outside, clusterBreaks, tableBreaks, column, tableOf};
+ghost use Rattle.isa.specs.Table.{clustersOf, unit, delay, outside, badUnits, badTable, column, tableOf};
 use crate::Delays;
 use crate::Table;
 use crate::truth::either;
@@ -32,8 +32,8 @@ fn outside(bytes: &[u8], least: u8, most: u8, j: u8, k: u8) -> bool
 }
 
 // Whether a number of cluster k breaks its limit.
-fn cluster_breaks(bytes: &[u8], k: u8) -> bool
-    ensures { λ r. ⌜ r ≡ clusterBreaks (now (bytes .entry)) k ⌝ }
+fn bad_units(bytes: &[u8], k: u8) -> bool
+    ensures { λ r. ⌜ r ≡ badUnits (now (bytes .entry)) k ⌝ }
 {
     let width = outside(bytes, 1, 8, 0, k);
     let alu = outside(bytes, 0, 8, 1, k);
@@ -43,43 +43,43 @@ fn cluster_breaks(bytes: &[u8], k: u8) -> bool
     either(either(either(either(width, alu), mul), mem), copy)
 }
 
-fn any_cluster_breaks(bytes: &[u8], clusters: u8) -> bool
-    ensures { λ r. ⌜ r ≡ anyBelow (clusterBreaks (now (bytes .entry))) clusters ⌝ }
+fn any_bad_units(bytes: &[u8], clusters: u8) -> bool
+    ensures { λ r. ⌜ r ≡ anyBelow (badUnits (now (bytes .entry))) clusters ⌝ }
 {
     let mut found = false;
     for k in 0..clusters {
-        found = either(cluster_breaks(bytes, k), found);
+        found = either(bad_units(bytes, k), found);
     }
     found
 }
 
 // Whether the j-th delay breaks its limit.
-fn delay_breaks(bytes: &[u8], j: u8) -> bool
+fn bad_delay(bytes: &[u8], j: u8) -> bool
     ensures { λ r. ⌜ r ≡ outside (now (bytes .entry)) 1 8 (delay (now (bytes .entry)) j) ⌝ }
 {
     outside(bytes, 1, 8, j, byte_at(bytes, 0))
 }
 
-fn any_delay_breaks(bytes: &[u8]) -> bool
+fn any_bad_delay(bytes: &[u8]) -> bool
     ensures { λ r. ⌜ r ≡ anyBelow (λ j. outside (now (bytes .entry)) 1 8 (delay (now (bytes .entry)) j)) 5 ⌝ }
 {
     let mut found = false;
     for j in 0..5 {
-        found = either(delay_breaks(bytes, j), found);
+        found = either(bad_delay(bytes, j), found);
     }
     found
 }
 
 // Refusal 1: the table breaks a limit.
 pub fn breaks(bytes: &[u8]) -> bool
-    ensures { λ r. ⌜ r ≡ tableBreaks (now (bytes .entry)) ⌝ }
+    ensures { λ r. ⌜ r ≡ badTable (now (bytes .entry)) ⌝ }
 {
     let clusters = byte_at(bytes, 0);
     let count = either(clusters < 1, 4 < clusters);
     let size = bytes.len() != 6 + 5 * clusters as usize;
     either(
-        either(either(count, size), any_cluster_breaks(bytes, clusters)),
-        any_delay_breaks(bytes),
+        either(either(count, size), any_bad_units(bytes, clusters)),
+        any_bad_delay(bytes),
     )
 }
 

@@ -2,6 +2,9 @@
 ghost use mathlib.Core.Path.{_≡_};
 ghost use Rattle.isa.specs.Touch.{delayOf};
 use crate::Delays;
+use crate::syllable::is_alu;
+use crate::syllable::is_mem;
+use crate::syllable::is_mul;
 
 // Delays go by class, but every branch register result has delay CMPB.
 pub fn delay(d: Delays, opcode: u32, register: u32) -> u64
@@ -10,16 +13,13 @@ pub fn delay(d: Delays, opcode: u32, register: u32) -> u64
     if 256 <= register {
         return d.cmpb;
     }
-    if opcode <= 23 {
+    if is_alu(opcode) {
         return d.alu;
     }
-    if opcode <= 29 {
+    if is_mul(opcode) {
         return d.mul;
     }
-    if opcode <= 51 {
-        return d.alu;
-    }
-    if opcode <= 59 {
+    if is_mem(opcode) {
         return d.load;
     }
     d.copy

@@ -1,8 +1,9 @@
 // Refusal 4: a bit that should be zero is set.
 ghost use mathlib.Core.Path.{_≡_};
-ghost use Prim.Native.Nat.{_≤_};
+ghost use Prim.Native.Nat.{ℕ, _≤_};
 ghost use Rattle.isa.specs.Syllable.{bits};
-ghost use Rattle.isa.specs.Zero.{set, besideRegister, strayAs, stray};
+ghost use Rattle.isa.specs.Zero.{set, besideRegister, badBitsAs, badBits};
+ghost use Rattle.isa.specs.Rebuilt.{Rebuilds};
 use crate::Format;
 use crate::syllable::bits;
 use crate::syllable::format;
@@ -27,8 +28,8 @@ fn beside_register(s: u32) -> bool
 }
 
 // Of each form, the bits that are not named.
-fn stray_as(f: Format, s: u32) -> bool
-    ensures { λ r. ⌜ r ≡ strayAs f s ⌝ }
+fn bad_bits_as(f: Format, s: u32) -> bool
+    ensures { λ r. ⌜ r ≡ badBitsAs f s ⌝ }
 {
     match f {
         Format::Still => either(1 < bits(s, 23, 18), any(s, 17, 0)),
@@ -40,13 +41,18 @@ fn stray_as(f: Format, s: u32) -> bool
         Format::Carry => false,
         Format::Load => false,
         Format::Store => false,
-        Format::Goto => false,
+        Format::Jump => false,
         Format::Fork => false,
     }
 }
 
-pub fn stray(s: u32) -> bool
-    ensures { λ r. ⌜ r ≡ stray s ⌝ }
+pub fn bad_bits(s: u32) -> bool
+    ensures { λ r. ⌜ r ≡ badBits s ⌝ }
 {
-    stray_as(format(opcode(s)), s)
+    bad_bits_as(format(opcode(s)), s)
 }
+
+// Refusal 4 and decoding name the same bits. The function does nothing: its promise is the theorem, so that nobody drops it unseen.
+pub fn rebuilds()
+    ensures { λ _. ⌜ ((c s : ℕ) → Rebuilds c s) ⌝ }
+{}

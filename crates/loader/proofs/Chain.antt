@@ -1,4 +1,4 @@
--- How the tests follow each other: one that found a place refuses there, one that found none leaves the answer to the others.
+-- What the tests rely on: those before them passed.
 use mathlib.Core.Path.{_≡_, sym, _∙_}
 use mathlib.Core.Logic.{_≢_}
 use mathlib.Core.Bool.{Bool, false, not, _||_, _&&_}
@@ -9,27 +9,17 @@ use lib.Dec.{eqb, ltb, leb}
 use lib.ListN.{length}
 use borrow.Author.Tests.{ltb-false, eqb-true, eqb-false, not-false}
 use Rattle.word.specs.Bytes.{words}
-use Rattle.word.specs.Lowest.{lowest, NoneBelow}
+use Rattle.word.specs.Lists.{NoneBelow}
 use Rattle.word.proofs.Bytes.{words-length}
 use Rattle.word.proofs.Choice.{or-false}
-use Rattle.word.proofs.Lowest.{lowest-is}
-use Rattle.word.specs.declared.Found.{Found}
-use Rattle.word.specs.declared.Found.the-variants.{At, Nothing}
-use Rattle.isa.specs.Syllable.{opens, isControl, isCopy}
+use Rattle.isa.specs.Syllable.{opcode, opens, isCopy}
+use Rattle.isa.specs.Control.{isControl}
+use Rattle.isa.specs.Lowest.{lowest}
 use Rattle.isa.specs.Program.{spotAt, cluster}
-use Rattle.isa.specs.declared.Place.{Place}
-use Rattle.loader.specs.Broken.{programBreaks, source, misplacedAt}
-use Rattle.loader.specs.Load.{_otherwise_, refusedAt}
-use Rattle.loader.specs.declared.Refusal.{Refusal}
-use Rattle.loader.specs.declared.Loaded.{Loaded}
-use Rattle.loader.specs.declared.Loaded.the-variants.{Refused}
-
-module _ (r : Place → Refusal) (b : Loaded) {f g : Found} (is : f ≡ g) where
-  pub refuses : {i : ℕ} → f ≡ At i → Refused (r (record { 0 = i })) ≡ refusedAt r g otherwise b
-  refuses e = rw (← is, e)
-
-  pub goes-on : {x : Loaded} → f ≡ Nothing → x ≡ b → x ≡ refusedAt r g otherwise b
-  goes-on e h = rw (← is, e) h
+use Rattle.isa.specs.declared.Found.{Found}
+use Rattle.isa.specs.declared.Found.the-variants.{Nothing}
+use Rattle.isa.proofs.Lowest.{lowest-is}
+use Rattle.loader.specs.Broken.{badProgramLength, source, badClusterAt}
 
 -- a test that found no place passes everywhere
 none-found : (f : ℕ → Bool) (n : ℕ) → lowest f n ≡ Nothing → NoneBelow f n
@@ -39,20 +29,20 @@ second : (a b c d : Bool) → a || b || c || d ≡ false → b ≡ false
 second a b c d e = or-false a b (or-false (a || b) c (or-false (a || b || c) d e .0) .0) .1
 
 -- where 5 passes no instruction opens more than four clusters
-pub few-opened : (C : ℕ) (p : List ℕ) {f : Found} → f ≡ lowest (misplacedAt C p) (length p) → f ≡ Nothing → C ≤ 4
+pub few-opened : (C : ℕ) (p : List ℕ) {f : Found} → f ≡ lowest (badClusterAt C p) (length p) → f ≡ Nothing → C ≤ 4
     → (j : ℕ) → j < length p → spotAt p j .opened ≤ 4
-unfolding misplacedAt
+unfolding badClusterAt
 few-opened C p is e few j h =
     let x = spotAt p j in
     let s = x .syllable in
     let passes =
     second (x .first && not (opens s)) (ltb C (x .opened)) (isControl s && not (eqb (cluster x) 0))
-    (isCopy s && (eqb (source s) (cluster x) || leb C (source s)))
-    (none-found (misplacedAt C p) (length p) (sym is ∙ e) j h) in
+    (isCopy (opcode s) && (eqb (source s) (cluster x) || leb C (source s)))
+    (none-found (badClusterAt C p) (length p) (sym is ∙ e) j h) in
     omega (arith, ltb-false C (x .opened) passes)
 
 -- a program with a good size has a syllable
-pub some-syllable : (l : List ℕ) → programBreaks l ≡ false → 0 < length (words l)
+pub some-syllable : (l : List ℕ) → badProgramLength l ≡ false → 0 < length (words l)
 some-syllable l e =
     let n = length l in
     let sized = or-false (eqb n 0 || ltb 16384 n) (not (eqb (n % 4) 0)) e in

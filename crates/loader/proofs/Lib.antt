@@ -2,9 +2,8 @@ pub mod Refusals
 pub mod Counts
 pub mod Ways
 pub mod Taken
-pub mod Exact
 pub mod Chain
 pub mod Walks
 pub mod Turns
-pub mod Tallies
-pub mod Marks
+pub mod Takes
+pub mod Stamps

@@ -4,13 +4,14 @@ use mathlib.Core.Bool.{Bool, true, false}
 use mathlib.Core.List.{List}
 use Prim.Native.Nat.{ℕ}
 use Rattle.word.specs.Bytes.{words}
-use Rattle.word.specs.Lowest.{NoneBelow, lowest}
-use Rattle.word.specs.declared.Found.{Found}
-use Rattle.word.specs.declared.Found.the-variants.{At, Nothing}
-use Rattle.word.proofs.Lowest.{lowest-is}
-use Rattle.isa.specs.Table.{tableBreaks, tableOf}
+use Rattle.word.specs.Lists.{NoneBelow}
+use Rattle.isa.specs.Lowest.{lowest}
+use Rattle.isa.specs.Table.{badTable, tableOf}
+use Rattle.isa.specs.declared.Found.{Found}
+use Rattle.isa.specs.declared.Found.the-variants.{At, Nothing}
 use Rattle.isa.specs.declared.Place.{Place}
 use Rattle.isa.specs.declared.Table.{Table}
+use Rattle.isa.proofs.Lowest.{lowest-is}
 use Rattle.loader.specs.Load.{_otherwise_, refusedIf, refusedAt, testedBy, loadedWith}
 use Rattle.loader.specs.Passed.{Passed}
 use Rattle.loader.specs.declared.Refusal.{Refusal}
@@ -36,23 +37,23 @@ test-good r f n e = rw (refusedAt-good r (lowest f n) e) at (lowest-is f n)
 pub passed : (table : Table) (program : List ℕ) → testedBy table program ≡ Good → Passed table program
 unfolding testedBy
 passed table program e =
-    let (unended, more) = otherwise-good _ _ e in
-    let (stray, more) = otherwise-good _ _ more in
-    let (misplaced, more) = otherwise-good _ _ more in
-    let (crowded, more) = otherwise-good _ _ more in
-    let (twice, astray) = otherwise-good _ _ more in
+    let (noEnd, more) = otherwise-good _ _ e in
+    let (badBits, more) = otherwise-good _ _ more in
+    let (badCluster, more) = otherwise-good _ _ more in
+    let (tooWide, more) = otherwise-good _ _ more in
+    let (twoWrites, badControl) = otherwise-good _ _ more in
     record {
-      unended = test-good _ _ _ unended;
-      stray = test-good _ _ _ stray;
-      misplaced = test-good _ _ _ misplaced;
-      crowded = test-good _ _ _ crowded;
-      twice = test-good _ _ _ twice;
-      astray = test-good _ _ _ astray;
+      noEnd = test-good _ _ _ noEnd;
+      badBits = test-good _ _ _ badBits;
+      badCluster = test-good _ _ _ badCluster;
+      tooWide = test-good _ _ _ tooWide;
+      twoWrites = test-good _ _ _ twoWrites;
+      badControl = test-good _ _ _ badControl;
     }
 
 -- what the inputs of an entry have passed
 pub record Accepted (sizes : Loaded) (table program : List ℕ) : Type 0 where
-  pub limits : tableBreaks table ≡ false
+  pub limits : badTable table ≡ false
   pub sized : sizes ≡ Good
   pub tested : testedBy (tableOf table) (words program) ≡ Good
 

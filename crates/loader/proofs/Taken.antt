@@ -12,15 +12,20 @@ use borrow.Author.Tests.{ltb-false, eqb-true, eq-eqb, not-false}
 use Rattle.word.specs.Lists.{any, anyBelow, count, repeats}
 use Rattle.word.proofs.Choice.{by-test, never-both, or-false, and-true}
 use Rattle.word.proofs.Lists.{index-of, anyBelow-false, repeats-false}
-use Rattle.isa.specs.Syllable.{ends, opens, isStop, isControl}
-use Rattle.isa.specs.Program.{Spot, nowhere, spotAt, cluster, isStart, instructionAt, following, operationsAt}
+use Rattle.isa.specs.Syllable.{ends, opens}
+use Rattle.isa.specs.Control.{place, wayOf, isControl, targetOf, solitary}
+use Rattle.isa.specs.Program.{nowhere, spotAt, cluster, isStart, instructionAt, following, operationsAt}
 use Rattle.isa.specs.Touch.{destinations, nexts}
+use Rattle.isa.specs.declared.Spot.{Spot}
+use Rattle.isa.specs.declared.Place.{Place}
+use Rattle.isa.specs.declared.Found.{Found}
+use Rattle.isa.specs.declared.Found.the-variants.{At}
 use Rattle.isa.specs.declared.Table.{Table}
 use Rattle.isa.proofs.Instructions.{spot-syllable, start-inside, start-zero, opened-first, opened-next, following-ends, following-within, following-here, next-start, between, instruction-at}
-use Rattle.loader.specs.Broken.{unendedAt, misplacedAt, overfull, crowdedAt, twiceAt, jumps, target, leaves, astrayAt}
+use Rattle.loader.specs.Broken.{noEndAt, badClusterAt, overfull, tooWideAt, twoWritesAt, misses, leaving, badControlAt}
 use Rattle.loader.specs.Passed.{Passed}
 use Rattle.loader.proofs.Counts.{length-classes}
-use Rattle.loader.proofs.Ways.{controls, Next, aimed, follows, next-is}
+use Rattle.loader.proofs.Ways.{controlsIn, Next, aimed, follows, next-is}
 
 -- what a test that fails says where its first part passes
 past : (a b : Bool) → a && b ≡ false → a ≡ true → b ≡ false
@@ -29,6 +34,10 @@ past false b e h = cc
 
 kept : (a b : Bool) → a && not b ≡ false → a ≡ true → b ≡ true
 kept a b e h = not-false b (past a (not b) e h)
+
+-- a target that no test misses is a start
+aims : (starts : ℕ → Bool) (f : Found) → misses starts f ≡ false → {t : Place} → f ≡ At t → starts (t .0) ≡ true
+aims starts f h e = not-false _ (rw e at h)
 
 -- what each syllable has, each of an instruction has
 each-of : (p : List ℕ) (i : ℕ) → i < length p → (P : Spot → Type 0) → ((j : ℕ) → j < length p → P (spotAt p j))
@@ -42,30 +51,30 @@ pub record Placed (table : Table) (p : List ℕ) (j : ℕ) : Type 0 where
   pub first-opens : isStart p j ≡ true → opens (getD p j 0) ≡ true
   pub opened-most : spotAt p j .opened ≤ table .clusters
   pub control-first : isControl (getD p j 0) ≡ true → cluster (spotAt p j) ≡ 0
-  pub target-starts : jumps (getD p j 0) ≡ true → isStart p (target (getD p j 0)) ≡ true
-  pub stop-whole : isStop (getD p j 0) ≡ true → (isStart p j ≡ true) × (ends (getD p j 0) ≡ true)
-  pub last-leaves : isStart p j ≡ true → following p j ≡ length p → any leaves (instructionAt p j) ≡ true
+  pub target-starts : {t : Place} → targetOf (wayOf (getD p j 0)) ≡ At t → isStart p (t .0) ≡ true
+  pub stop-whole : solitary (wayOf (getD p j 0)) ≡ true → (isStart p j ≡ true) × (ends (getD p j 0) ≡ true)
+  pub last-leaves : isStart p j ≡ true → following p j ≡ length p → any leaving (instructionAt p j) ≡ true
 
 module _ {table : Table} {p : List ℕ} (ok : Passed table p) where
   pub last-ends : 0 < length p → ends (getD p (length p - 1) 0) ≡ true
-  unfolding unendedAt
-  last-ends h = let i : ℕ = length p - 1 in kept _ _ (ok .unended i (omega arith)) (eq-eqb (suc i) (length p) (omega arith))
+  unfolding noEndAt
+  last-ends h = let i : ℕ = length p - 1 in kept _ _ (ok .noEnd i (omega arith)) (eq-eqb (suc i) (length p) (omega arith))
 
   -- ---- a syllable
 
   pub placed : (j : ℕ) → j < length p → Placed table p j
-  unfolding misplacedAt astrayAt
+  unfolding badClusterAt badControlAt
   placed j h =
-      let (more, copy) = or-false _ _ (rw (spot-syllable p j) at (ok .misplaced j h)) in
+      let (more, copy) = or-false _ _ (rw (spot-syllable p j) at (ok .badCluster j h)) in
       let (more, control) = or-false _ _ more in
       let (first, opened) = or-false _ _ more in
-      let (more, last) = or-false _ _ (rw (spot-syllable p j) at (ok .astray j h)) in
+      let (more, last) = or-false _ _ (rw (spot-syllable p j) at (ok .badControl j h)) in
       let (goal, stop) = or-false _ _ more in
       record {
         first-opens = kept _ _ first;
         opened-most = ltb-false _ _ opened;
         control-first = λ e. eqb-true _ _ (kept _ _ control e);
-        target-starts = kept _ _ goal;
+        target-starts = λ e. aims (isStart p) _ goal e;
         stop-whole = λ e. and-true _ _ (kept _ _ stop e);
         last-leaves = λ s e. kept _ _ (rw s at last) (eq-eqb _ _ e);
       }
@@ -94,9 +103,9 @@ module _ {table : Table} {p : List ℕ} (ok : Passed table p) where
     pub instruction-ends : ends (getD p (following p i - 1) 0) ≡ true
     instruction-ends = following-ends p i inside (last-ends (omega (arith, inside)))
 
-    uncrowded : (anyBelow (overfull table (instructionAt p i)) (table .clusters) ≡ false) × (ltb 1 (controls (instructionAt p i)) ≡ false)
-    unfolding crowdedAt
-    uncrowded = or-false _ _ (past _ _ (ok .crowded i inside) s)
+    uncrowded : (anyBelow (overfull table (instructionAt p i)) (table .clusters) ≡ false) × (ltb 1 (controlsIn (instructionAt p i)) ≡ false)
+    unfolding tooWideAt
+    uncrowded = or-false _ _ (past _ _ (ok .tooWide i inside) s)
 
     fits : (k : ℕ) → k < table .clusters → count (λ x. eqb (cluster x) k) (instructionAt p i) ≤ getD (table .width) k 0
     fits k b =
@@ -111,17 +120,17 @@ module _ {table : Table} {p : List ℕ} (ok : Passed table p) where
         let clusters = each-of p i inside (λ x. cluster x < table .clusters) (λ j h. omega (arith, in-cluster j h)) in
         omega (arith, length-classes cluster 8 clusters (λ k b. le-trans (fits k b) (narrow k b)))
 
-    pub one-control : controls (instructionAt p i) ≤ 1
+    pub one-control : controlsIn (instructionAt p i) ≤ 1
     one-control = ltb-false 1 _ (uncrowded .1)
 
     pub unrepeated : repeats (destinations (operationsAt p i)) ≡ false
-    unfolding twiceAt
-    unrepeated = past _ _ (ok .twice i inside) s
+    unfolding twoWritesAt
+    unrepeated = past _ _ (ok .twoWrites i inside) s
 
     pub distinct : Pairwise _≢_ (destinations (operationsAt p i))
     distinct = repeats-false _ unrepeated
 
-    pub stop-alone : (j : ℕ) → i ≤ j → j < following p i → isStop (getD p j 0) ≡ true → (j ≡ i) × (following p i ≡ suc i)
+    pub stop-alone : (j : ℕ) → i ≤ j → j < following p i → solitary (wayOf (getD p j 0)) ≡ true → (j ≡ i) × (following p i ≡ suc i)
     stop-alone j a b e =
         let (first, end) = placed j (omega (arith, following-within p i inside)) .stop-whole e in
         ⊎-elim
@@ -133,9 +142,8 @@ module _ {table : Table} {p : List ℕ} (ok : Passed table p) where
     onward {t} m = by (next-is (following p i) (instructionAt p i) one-control m)
       where
         by : Next (following p i) (instructionAt p i) t → isStart p t ≡ true
-        by (aimed {x = x} m j e) =
-            rw e
-            (each-of p i inside (λ y. jumps (y .syllable) ≡ true → isStart p (target (y .syllable)) ≡ true) (λ k h. rw (spot-syllable p k) (placed k h .target-starts)) x m j)
+        by (aimed {x = x} m e) =
+            each-of p i inside (λ y. targetOf (wayOf (y .syllable)) ≡ At (place t) → isStart p t ≡ true) (λ k h. rw (spot-syllable p k) (placed k h .target-starts)) x m e
         by (follows e l) =
             ⊎-elim
             (λ q. absurd (never-both (placed i inside .last-leaves s q) l))

@@ -8,7 +8,7 @@ use Rattle.word.specs.Bytes.{bytes}
 use Rattle.loader.specs.Load.{loadedOf}
 use Rattle.loader.specs.declared.Answer.{Answer}
 use Rattle.loader.specs.declared.Refusal.{Refusal}
-use Rattle.loader.specs.declared.Refusal.the-variants.{Table, Program, Memory, Image, Room, Unended, Stray, Misplaced, Crowded, Twice, Astray}
+use Rattle.loader.specs.declared.Refusal.the-variants.{BadTable, ProgramLength, MemoryLength, StateLength, RoomLength, NoEnd, BadBits, BadCluster, TooWide, TwoWrites, BadControl}
 use Rattle.loader.specs.declared.Loaded.{Loaded}
 use Rattle.loader.specs.declared.Loaded.the-variants.{Good, Refused}
 
@@ -16,17 +16,17 @@ abbrev pub answer : ℕ → ℕ → ℕ → Answer
 answer number count place = record { number = number; count = count; place = place }
 
 abbrev pub refusalAnswer : Refusal → Answer
-refusalAnswer Table = answer 1 0 0
-refusalAnswer Program = answer 2 0 0
-refusalAnswer Memory = answer 2 0 1
-refusalAnswer Image = answer 2 0 2
-refusalAnswer Room = answer 2 0 3
-refusalAnswer (Unended i) = answer 3 0 (i .0)
-refusalAnswer (Stray i) = answer 4 0 (i .0)
-refusalAnswer (Misplaced i) = answer 5 0 (i .0)
-refusalAnswer (Crowded i) = answer 6 0 (i .0)
-refusalAnswer (Twice i) = answer 7 0 (i .0)
-refusalAnswer (Astray i) = answer 8 0 (i .0)
+refusalAnswer BadTable = answer 1 0 0
+refusalAnswer ProgramLength = answer 2 0 0
+refusalAnswer MemoryLength = answer 2 0 1
+refusalAnswer StateLength = answer 2 0 2
+refusalAnswer RoomLength = answer 2 0 3
+refusalAnswer (NoEnd i) = answer 3 0 (i .0)
+refusalAnswer (BadBits i) = answer 4 0 (i .0)
+refusalAnswer (BadCluster i) = answer 5 0 (i .0)
+refusalAnswer (TooWide i) = answer 6 0 (i .0)
+refusalAnswer (TwoWrites i) = answer 7 0 (i .0)
+refusalAnswer (BadControl i) = answer 8 0 (i .0)
 
 abbrev pub loadAnswer : Loaded → Answer
 loadAnswer Good = answer 0 0 0
@@ -37,12 +37,12 @@ unfoldable pub roomWith : Answer → List ℕ → List ℕ
 roomWith a room = pick (eqb (length room) 12) (bytes 4 (a .number) ++ (bytes 4 (a .count) ++ bytes 4 (a .place))) room
 
 -- all that a call of load or of check leaves
-pub record Outcome : Type 0 where
+pub record RoomOutcome : Type 0 where
   pub result : ℕ
   pub room : List ℕ
 
-abbrev pub answered : Answer → List ℕ → Outcome
+abbrev pub answered : Answer → List ℕ → RoomOutcome
 answered a room = record { result = a .number; room = roomWith a room }
 
-abbrev pub loadOutcome : List ℕ → List ℕ → List ℕ → Outcome
+abbrev pub loadOutcome : List ℕ → List ℕ → List ℕ → RoomOutcome
 loadOutcome table program room = answered (loadAnswer (loadedOf table program room)) room

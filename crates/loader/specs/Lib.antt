@@ -1,5 +1,4 @@
 pub mod Broken
 pub mod Load
 pub mod Answer
-pub mod Exact
 pub mod Passed

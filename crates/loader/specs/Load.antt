@@ -4,16 +4,16 @@ use mathlib.Core.List.{List}
 use Prim.Native.Nat.{ℕ}
 use lib.ListN.{length}
 use Rattle.word.specs.Choice.{pick}
-use Rattle.word.specs.Lowest.{lowest}
+use Rattle.isa.specs.Lowest.{lowest}
 use Rattle.word.specs.Bytes.{words}
-use Rattle.word.specs.declared.Found.{Found}
-use Rattle.word.specs.declared.Found.the-variants.{At, Nothing}
-use Rattle.isa.specs.Table.{tableBreaks, tableOf}
+use Rattle.isa.specs.declared.Found.{Found}
+use Rattle.isa.specs.declared.Found.the-variants.{At, Nothing}
+use Rattle.isa.specs.Table.{badTable, tableOf}
 use Rattle.isa.specs.declared.Place.{Place}
 use Rattle.isa.specs.declared.Table.{Table}
-use Rattle.loader.specs.Broken.{programBreaks, roomBreaks, unendedAt, strayAt, misplacedAt, crowdedAt, twiceAt, astrayAt}
+use Rattle.loader.specs.Broken.{badProgramLength, badRoomLength, noEndAt, badBitsAt, badClusterAt, tooWideAt, twoWritesAt, badControlAt}
 use Rattle.loader.specs.declared.Refusal.{Refusal}
-use Rattle.loader.specs.declared.Refusal.the-variants.{Table as BadTable, Program, Room, Unended, Stray, Misplaced, Crowded, Twice, Astray}
+use Rattle.loader.specs.declared.Refusal.the-variants.{BadTable, ProgramLength, RoomLength, NoEnd, BadBits, BadCluster, TooWide, TwoWrites, BadControl}
 use Rattle.loader.specs.declared.Loaded.{Loaded}
 use Rattle.loader.specs.declared.Loaded.the-variants.{Good, Refused}
 
@@ -27,26 +27,26 @@ abbrev pub refusedIf : Bool → Refusal → Loaded
 refusedIf broken r = pick broken (Refused r) Good
 
 abbrev pub refusedAt : (Place → Refusal) → Found → Loaded
-refusedAt r (At i) = Refused (r (record { 0 = i }))
+refusedAt r (At i) = Refused (r i)
 refusedAt r Nothing = Good
 
 -- 3 to 8, of the syllables
 unfoldable pub testedBy : Table → List ℕ → Loaded
 testedBy table program =
     let n = length program in
-    refusedAt Unended (lowest (unendedAt program) n)
-    otherwise refusedAt Stray (lowest (strayAt program) n)
-    otherwise refusedAt Misplaced (lowest (misplacedAt (table .clusters) program) n)
-    otherwise refusedAt Crowded (lowest (crowdedAt table program) n)
-    otherwise refusedAt Twice (lowest (twiceAt program) n)
-    otherwise refusedAt Astray (lowest (astrayAt program) n)
+    refusedAt NoEnd (lowest (noEndAt program) n)
+    otherwise refusedAt BadBits (lowest (badBitsAt program) n)
+    otherwise refusedAt BadCluster (lowest (badClusterAt (table .clusters) program) n)
+    otherwise refusedAt TooWide (lowest (tooWideAt table program) n)
+    otherwise refusedAt TwoWrites (lowest (twoWritesAt program) n)
+    otherwise refusedAt BadControl (lowest (badControlAt program) n)
 
 -- 1; what an entry tests under 2; 3 to 8
 unfoldable pub loadedWith : Loaded → List ℕ → List ℕ → Loaded
 loadedWith sizes table program =
-    refusedIf (tableBreaks table) BadTable otherwise sizes otherwise testedBy (tableOf table) (words program)
+    refusedIf (badTable table) BadTable otherwise sizes otherwise testedBy (tableOf table) (words program)
 
 -- load and check take no memory and no state image
 abbrev pub loadedOf : List ℕ → List ℕ → List ℕ → Loaded
 loadedOf table program room =
-    loadedWith (refusedIf (programBreaks program) Program otherwise refusedIf (roomBreaks room) Room) table program
+    loadedWith (refusedIf (badProgramLength program) ProgramLength otherwise refusedIf (badRoomLength room) RoomLength) table program

@@ -22,17 +22,17 @@ pub fn of_refusal(r: Refusal) -> Answer
     ensures { λ a. ⌜ a ≡ refusalAnswer r ⌝ }
 {
     match r {
-        Refusal::Table => refused(1, Place(0)),
-        Refusal::Program => refused(2, Place(0)),
-        Refusal::Memory => refused(2, Place(1)),
-        Refusal::Image => refused(2, Place(2)),
-        Refusal::Room => refused(2, Place(3)),
-        Refusal::Unended(i) => refused(3, i),
-        Refusal::Stray(i) => refused(4, i),
-        Refusal::Misplaced(i) => refused(5, i),
-        Refusal::Crowded(i) => refused(6, i),
-        Refusal::Twice(i) => refused(7, i),
-        Refusal::Astray(i) => refused(8, i),
+        Refusal::BadTable => refused(1, Place(0)),
+        Refusal::ProgramLength => refused(2, Place(0)),
+        Refusal::MemoryLength => refused(2, Place(1)),
+        Refusal::StateLength => refused(2, Place(2)),
+        Refusal::RoomLength => refused(2, Place(3)),
+        Refusal::NoEnd(i) => refused(3, i),
+        Refusal::BadBits(i) => refused(4, i),
+        Refusal::BadCluster(i) => refused(5, i),
+        Refusal::TooWide(i) => refused(6, i),
+        Refusal::TwoWrites(i) => refused(7, i),
+        Refusal::BadControl(i) => refused(8, i),
     }
 }
 

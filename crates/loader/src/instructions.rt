@@ -1,246 +1,232 @@
 // Refusals 6 and 7: tests of each instruction, the lowest place first.
 ghost use mathlib.Core.Path.{_≡_};
 ghost use mathlib.Core.Bool.{true, false, not, _||_, _&&_};
-ghost use mathlib.Core.List.{map};
-ghost use Prim.Native.Nat.{ℕ, _+_, _-_, _^_, _≤_, _<_};
+ghost use mathlib.Core.List.{List, _∷_};
+ghost use Prim.Native.Nat.{ℕ, _+_, _≤_, _<_};
 ghost use lib.Dec.{eqb, ltb};
 ghost use lib.ListN.{length, getD, set};
 ghost use Rattle.word.specs.Choice.{pick, bit};
 ghost use Rattle.word.specs.Bytes.{words};
-ghost use Rattle.word.specs.Lists.{any, count, repeats};
-ghost use Rattle.word.specs.Lowest.{lowest};
-ghost use Rattle.isa.specs.Syllable.{ends, opens, isAlu, isMul, isMem, isCopy, isControl};
-ghost use Rattle.isa.specs.Program.{spots, spotAt, isStart, instructionAt, cluster, operation};
-ghost use Rattle.isa.specs.Decode.{decode};
+ghost use Rattle.word.specs.Lists.{anyBelow, repeats};
+ghost use Rattle.isa.specs.Lowest.{lowest};
+ghost use Rattle.isa.specs.Program.{spotAt, isStart, instructionAt, following, operationsAt};
 ghost use Rattle.isa.specs.Touch.{destinations};
-ghost use Rattle.loader.specs.Broken.{source, here, copies, overfull, crowded, crowdedAt, twiceAt};
-use isa::Op;
+ghost use Rattle.isa.specs.declared.Delays.{Delays};
+ghost use Rattle.isa.specs.declared.Spot.{Spot};
+ghost use Rattle.loader.specs.Broken.{overfull, tooWide, tooWideAt, twoWritesAt};
+use isa::Found;
 use isa::Place;
+use isa::Spot;
 use isa::Table;
-use isa::decode::decode;
-use isa::program::following;
+use isa::control::is_control;
 use isa::program::syllable;
+use isa::stretch::before_all;
+use isa::stretch::cluster;
+use isa::stretch::next_spot;
+use isa::stretch::operation;
 use isa::syllable::bits;
 use isa::syllable::ends;
 use isa::syllable::is_alu;
-use isa::syllable::is_control;
 use isa::syllable::is_copy;
 use isa::syllable::is_mem;
 use isa::syllable::is_mul;
-use isa::syllable::opens;
-use word::Found;
+use isa::syllable::opcode;
 
-// A walk over syllables: whether the next one is its instruction's first, and how many clusters were opened before it.
-struct Walk {
-    first: bool,
-    opened: usize,
+// What a test of one instruction says: it breaks it, or the place after the instruction.
+struct Tested {
+    broken: bool,
+    next: Place,
 }
 
-// The syllables of a cluster: all, and those of each class; and the control syllables of all clusters.
-struct Tally {
-    all: usize,
-    alu: usize,
-    mul: usize,
-    mem: usize,
-    copy: usize,
-    control: usize,
-}
-
-// The bytes of the instruction that starts at `at`.
-fn instruction(program: &[u8], at: Place) -> &[u8]
-    requires { ⌜ isStart (words (now program)) (at .0) ≡ true ⌝ }
-    ensures { λ r. ⌜ spots (words (now r)) ≡ instructionAt (words (now (program .entry))) (at .0) ⌝ }
+fn broken(at: Place) -> Tested
+    ensures { λ r. ⌜ r ≡ record { broken = true; next = at } ⌝ }
 {
-    let next = following(program, at);
-    &program[at.0 * 4..next.0 * 4]
-}
-
-// One more where a test passes.
-fn more(n: usize, test: bool) -> usize
-    requires { ⌜ n < 2 ^ 63 ⌝ }
-    ensures { λ r. ⌜ r ≡ n + bit test ⌝ }
-{
-    n + test as usize
-}
-
-// The walk after syllable s.
-fn after(w: Walk, s: u32) -> Walk
-    requires { ⌜ w .opened < 2 ^ 63 ⌝ }
-    ensures { λ r. ⌜ r ≡ record { first = ends s; opened = pick (w .first) 0 (w .opened) + bit (opens s) } ⌝ }
-{
-    let before = if w.first { 0 } else { w.opened };
-    Walk {
-        first: ends(s),
-        opened: more(before, opens(s)),
+    Tested {
+        broken: true,
+        next: at,
     }
 }
 
-// The cluster of the syllable that the walk has just passed.
-fn cluster(w: Walk) -> usize
-    ensures { λ r. ⌜ r ≡ w .opened - 1 ⌝ }
+fn passed(next: Place) -> Tested
+    ensures { λ r. ⌜ r ≡ record { broken = false; next = next } ⌝ }
 {
-    if w.opened == 0 { 0 } else { w.opened - 1 }
-}
-
-// The tally of cluster k with syllable s of cluster c; a copy counts in both its clusters.
-fn tallied(t: Tally, k: usize, c: usize, s: u32) -> Tally
-    requires { ⌜ (t .all < 2 ^ 63) × (t .alu < 2 ^ 63) × (t .mul < 2 ^ 63) × (t .mem < 2 ^ 63) × (t .copy < 2 ^ 63) × (t .control < 2 ^ 63) ⌝ }
-    ensures { λ r. ⌜ r ≡ record {
-      all = t .all + bit (eqb c k);
-      alu = t .alu + bit (eqb c k && isAlu s);
-      mul = t .mul + bit (eqb c k && isMul s);
-      mem = t .mem + bit (eqb c k && isMem s);
-      copy = t .copy + bit (isCopy s && (eqb c k || eqb (source s) k));
-      control = t .control + bit (isControl s);
-    } ⌝ }
-{
-    let here = c == k;
-    Tally {
-        all: more(t.all, here),
-        alu: more(t.alu, here & is_alu(s)),
-        mul: more(t.mul, here & is_mul(s)),
-        mem: more(t.mem, here & is_mem(s)),
-        copy: more(t.copy, is_copy(s) & (here | (bits(s, 1, 0) as usize == k))),
-        control: more(t.control, is_control(s)),
+    Tested {
+        broken: false,
+        next,
     }
 }
 
-// The tally of cluster k in `part`.
-fn tally_of(part: &[u8], k: usize) -> Tally
-    ensures { λ r. ⌜ (let xs = spots (words (now (part .entry))) in
-        r ≡ record {
-          all = count (λ x. eqb (cluster x) k) xs;
-          alu = count (here k isAlu) xs;
-          mul = count (here k isMul) xs;
-          mem = count (here k isMem) xs;
-          copy = count (copies k) xs;
-          control = count (λ x. isControl (x .syllable)) xs;
-        }) ⌝ }
+// Takes one of what cluster c has left, and says whether nothing was left. Only the table's clusters have anything.
+fn take(left: &mut [u8; 4], clusters: usize, c: usize) -> bool
+    requires { ⌜ clusters ≤ 4 ⌝ }
+    ensures { λ b. ⌜ ((more : ℕ → ℕ) → anyBelow (λ k. ltb (getD (now (left .entry)) k 0) (bit (eqb c k) + more k)) clusters
+        ≡ b || anyBelow (λ k. ltb (getD (now (left .exit)) k 0) (more k)) clusters) ⌝ }
 {
-    let mut t = Tally {
-        all: 0,
-        alu: 0,
-        mul: 0,
-        mem: 0,
-        copy: 0,
-        control: 0,
-    };
-    let mut w = Walk {
-        first: true,
-        opened: 0,
-    };
-    for j in 0..part.len() / 4 {
-        let s = syllable(part, Place(j));
-        w = after(w, s);
-        t = tallied(t, k, cluster(w), s);
+    if clusters <= c {
+        return false;
     }
-    t
+    if left[c] == 0 {
+        return true;
+    }
+    left[c] -= 1;
+    false
 }
 
-// Whether n is above a limit: a call, since a cast of an element would ask for its bound besides its index.
-fn above(n: usize, limit: u8) -> bool
-    ensures { λ r. ⌜ r ≡ ltb limit n ⌝ }
+// A copy is taken from both its clusters, once where they are one.
+fn take_copy(left: &mut [u8; 4], clusters: usize, c: usize, from: usize) -> bool
+    requires { ⌜ clusters ≤ 4 ⌝ }
+    ensures { λ b. ⌜ ((more : ℕ → ℕ) → anyBelow (λ k. ltb (getD (now (left .entry)) k 0) (bit (eqb c k || eqb from k) + more k)) clusters
+        ≡ b || anyBelow (λ k. ltb (getD (now (left .exit)) k 0) (more k)) clusters) ⌝ }
 {
-    n > limit as usize
+    let own = take(left, clusters, c);
+    if from == c {
+        return own;
+    }
+    own | take(left, clusters, from)
 }
 
-// Whether `part` has more syllables in cluster k, or more of a class, than the table allows.
-fn is_overfull(table: Table, part: &[u8], k: usize) -> bool
-    requires { ⌜ k < 4 ⌝ }
-    ensures { λ r. ⌜ r ≡ overfull table (spots (words (now (part .entry)))) k ⌝ }
+// Takes a syllable from what its cluster has left, of all and of its class, and says whether something was not there to take.
+fn overfills(
+    clusters: usize,
+    x: Spot,
+    all: &mut [u8; 4],
+    alu: &mut [u8; 4],
+    mul: &mut [u8; 4],
+    mem: &mut [u8; 4],
+    copy: &mut [u8; 4],
+) -> bool
+    requires { ⌜ clusters ≤ 4 ⌝ }
+    ensures { λ b. ⌜ ((delays : Delays) (xs : List Spot) →
+        anyBelow (overfull (record { clusters = clusters; width = now (all .entry); alu = now (alu .entry); mul = now (mul .entry); mem = now (mem .entry); copy = now (copy .entry); delays = delays }) (x ∷ xs)) clusters
+        ≡ b || anyBelow (overfull (record { clusters = clusters; width = now (all .exit); alu = now (alu .exit); mul = now (mul .exit); mem = now (mem .exit); copy = now (copy .exit); delays = delays }) xs) clusters) ⌝ }
 {
-    let t = tally_of(part, k);
-    above(t.all, table.width[k])
-        | above(t.alu, table.alu[k])
-        | above(t.mul, table.mul[k])
-        | above(t.mem, table.mem[k])
-        | above(t.copy, table.copy[k])
+    let c = cluster(x);
+    let o = opcode(x.syllable);
+    if take(all, clusters, c) {
+        return true;
+    }
+    if is_alu(o) {
+        return take(alu, clusters, c);
+    }
+    if is_mul(o) {
+        return take(mul, clusters, c);
+    }
+    if is_mem(o) {
+        return take(mem, clusters, c);
+    }
+    if is_copy(o) {
+        return take_copy(copy, clusters, c, bits(x.syllable, 1, 0) as usize);
+    }
+    false
 }
 
-// Whether `part`, an instruction's bytes, breaks 6.
-fn is_crowded(table: Table, part: &[u8]) -> bool
+// 6, of the instruction that starts at a place.
+fn is_too_wide(table: Table, program: &[u8], at: Place) -> Tested
     requires { ⌜ table .clusters ≤ 4 ⌝ }
-    ensures { λ r. ⌜ r ≡ crowded table (spots (words (now (part .entry)))) ⌝ }
+    requires { ⌜ isStart (words (now program)) (at .0) ≡ true ⌝ }
+    ensures is { λ r. ⌜ r .broken ≡ tooWide table (instructionAt (words (now (program .entry))) (at .0)) ⌝ }
+    ensures next { λ r. ⌜ (r .broken ≡ false → r .next .0 ≡ following (words (now (program .entry))) (at .0)) ⌝ }
 {
-    let mut found = false;
-    for k in 0..table.clusters {
-        found = is_overfull(table, part, k) | found;
+    let clusters = table.clusters;
+    // What is left of the table's counts.
+    let mut all = table.width;
+    let mut alu = table.alu;
+    let mut mul = table.mul;
+    let mut mem = table.mem;
+    let mut copy = table.copy;
+    let mut controlled = false;
+    let mut x = before_all();
+    for i in at.0..program.len() / 4 {
+        x = next_spot(x, syllable(program, Place(i)));
+        let control = is_control(x.syllable);
+        if overfills(
+            clusters,
+            x,
+            &mut all,
+            &mut alu,
+            &mut mul,
+            &mut mem,
+            &mut copy,
+        )
+            | (controlled & control)
+        {
+            return broken(at);
+        }
+        controlled = controlled | control;
+        if ends(x.syllable) {
+            return passed(Place(i + 1));
+        }
     }
-    // The control syllables are in every cluster's tally.
-    found | (1 < tally_of(part, 0).control)
+    passed(Place(program.len() / 4))
 }
 
 // 6: more in a cluster, or more control, than one instruction may have.
-pub fn crowded(table: Table, program: &[u8]) -> Found
+pub fn too_wide(table: Table, program: &[u8]) -> Found
     requires { ⌜ table .clusters ≤ 4 ⌝ }
-    ensures { λ r. ⌜ r ≡ lowest (crowdedAt table (words (now (program .entry)))) (length (words (now (program .entry)))) ⌝ }
+    ensures { λ r. ⌜ r ≡ lowest (tooWideAt table (words (now (program .entry)))) (length (words (now (program .entry)))) ⌝ }
 {
-    let mut at = 0;
-    while at < program.len() / 4 {
-        let part = instruction(program, Place(at));
-        if is_crowded(table, part) {
+    let mut at = Place(0);
+    while at.0 < program.len() / 4 {
+        let t = is_too_wide(table, program, at);
+        if t.broken {
             return Found::At(at);
         }
-        at += part.len() / 4;
+        at = t.next;
     }
     Found::Nothing
 }
 
-// What syllable s, which the walk has just passed, asks for.
-fn operation(w: Walk, s: u32) -> Op
-    requires { ⌜ w .opened ≤ 4 ⌝ }
-    ensures is { λ r. ⌜ r ≡ decode (w .opened - 1) s ⌝ }
-    ensures registers { λ r. ⌜ (r .t1 < 288) × (r .t2 < 288) ⌝ }
-{
-    decode(cluster(w) as u32, s)
-}
-
-// Marks register r, unless it is 0, and says whether it was marked.
-fn mark(marks: &mut [bool; 288], r: u32) -> bool
+// Stamps register r, unless it is 0, and says whether it had this stamp.
+fn stamp(stamps: &mut [usize; 288], r: u32, n: usize) -> bool
     requires { ⌜ r < 288 ⌝ }
-    ensures was { λ b. ⌜ b ≡ (not (eqb r 0) && getD (now (marks .entry)) r false) ⌝ }
-    ensures is { λ _. ⌜ now (marks .exit) ≡ pick (eqb r 0) (now (marks .entry)) (set (now (marks .entry)) r true) ⌝ }
+    ensures was { λ b. ⌜ b ≡ (not (eqb r 0) && eqb (getD (now (stamps .entry)) r 0) n) ⌝ }
+    ensures is { λ _. ⌜ now (stamps .exit) ≡ pick (eqb r 0) (now (stamps .entry)) (set (now (stamps .entry)) r n) ⌝ }
 {
     if r == 0 {
         return false;
     }
-    let was = marks[r as usize];
-    marks[r as usize] = true;
+    let was = stamps[r as usize] == n;
+    stamps[r as usize] = n;
     was
 }
 
-// Whether `part`, the bytes of an instruction that opens no fifth cluster, breaks 7.
-fn is_repeated(part: &[u8]) -> bool
-    requires { ⌜ any (λ x. ltb 4 (x .opened)) (spots (words (now part))) ≡ false ⌝ }
-    ensures { λ r. ⌜ r ≡ repeats (destinations (map operation (spots (words (now (part .entry)))))) ⌝ }
+// 7, of the instruction that starts at a place; none opens a fifth cluster. Its stamp is above all that were used before it, so that
+// nothing has to be cleared.
+fn has_two_writes(program: &[u8], at: Place, stamps: &mut [usize; 288]) -> Tested
+    requires { ⌜ isStart (words (now program)) (at .0) ≡ true ⌝ }
+    requires { ⌜ ((j : ℕ) → j < length (words (now program)) → spotAt (words (now program)) j .opened ≤ 4) ⌝ }
+    requires { ⌜ (length (now stamps) ≡ 288) × ((r : ℕ) → getD (now stamps) r 0 ≤ at .0) ⌝ }
+    ensures is { λ r. ⌜ r .broken ≡ repeats (destinations (operationsAt (words (now (program .entry))) (at .0))) ⌝ }
+    ensures next { λ r. ⌜ (r .broken ≡ false → r .next .0 ≡ following (words (now (program .entry))) (at .0)) ⌝ }
+    ensures stamped { λ _. ⌜ (length (now (stamps .exit)) ≡ 288) × ((r : ℕ) → getD (now (stamps .exit)) r 0 ≤ at .0 + 1) ⌝ }
 {
-    let mut marks = [false; 288];
-    let mut found = false;
-    let mut w = Walk {
-        first: true,
-        opened: 0,
-    };
-    for j in 0..part.len() / 4 {
-        let s = syllable(part, Place(j));
-        w = after(w, s);
-        let o = operation(w, s);
-        found = found | mark(&mut marks, o.t1) | mark(&mut marks, o.t2);
+    let mut x = before_all();
+    for i in at.0..program.len() / 4 {
+        x = next_spot(x, syllable(program, Place(i)));
+        let o = operation(x);
+        if stamp(stamps, o.t, at.0 + 1) | stamp(stamps, o.carry, at.0 + 1) {
+            return broken(at);
+        }
+        if ends(x.syllable) {
+            return passed(Place(i + 1));
+        }
     }
-    found
+    passed(Place(program.len() / 4))
 }
 
 // 7: a register, not register 0, twice as destination.
-pub fn twice(program: &[u8]) -> Found
+pub fn two_writes(program: &[u8]) -> Found
     requires { ⌜ ((j : ℕ) → j < length (words (now program)) → spotAt (words (now program)) j .opened ≤ 4) ⌝ }
-    ensures { λ r. ⌜ r ≡ lowest (twiceAt (words (now (program .entry)))) (length (words (now (program .entry)))) ⌝ }
+    ensures { λ r. ⌜ r ≡ lowest (twoWritesAt (words (now (program .entry)))) (length (words (now (program .entry)))) ⌝ }
 {
-    let mut at = 0;
-    while at < program.len() / 4 {
-        let part = instruction(program, Place(at));
-        if is_repeated(part) {
+    let mut stamps: [usize; 288] = [0; 288];
+    let mut at = Place(0);
+    while at.0 < program.len() / 4 {
+        let t = has_two_writes(program, at, &mut stamps);
+        if t.broken {
             return Found::At(at);
         }
-        at += part.len() / 4;
+        at = t.next;
     }
     Found::Nothing
 }

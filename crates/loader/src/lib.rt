@@ -6,23 +6,23 @@ mod numbers;
 mod syllables;
 
 use isa::Place;
+pub use numbers::bad_program_length;
 pub use numbers::load;
 pub use numbers::load_with;
-pub use numbers::program_breaks;
 
 // What stands against loading, with its place where document 01 gives one.
 pub enum Refusal {
-    Table,
-    Program,
-    Memory,
-    Image,
-    Room,
-    Unended(Place),
-    Stray(Place),
-    Misplaced(Place),
-    Crowded(Place),
-    Twice(Place),
-    Astray(Place),
+    BadTable,
+    ProgramLength,
+    MemoryLength,
+    StateLength,
+    RoomLength,
+    NoEnd(Place),
+    BadBits(Place),
+    BadCluster(Place),
+    TooWide(Place),
+    TwoWrites(Place),
+    BadControl(Place),
 }
 
 pub enum Loaded {

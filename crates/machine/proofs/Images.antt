@@ -9,7 +9,7 @@ use lib.Seq.{sets, length-take-le, drop-cons, drop-drop, drop-length, getD-drop}
 use Rattle.word.specs.Bytes.{AreBytes, number, bytes, wordAt}
 use Rattle.word.proofs.Bytes.{bytes-number, number-bytes, numberAt-lt, areBytes-take, areBytes-drop}
 use Rattle.vliw.specs.Cell.{Cell, Registers, at}
-use Rattle.machine.specs.Image.{offset, placeIn, cellIn, cellsFrom, registersIn, cellBytes, registerBytes, imageOf}
+use Rattle.machine.specs.Image.{imageOffset, placeIn, cellIn, cellsFrom, registersIn, cellBytes, registerBytes, imageOf}
 
 -- ---- the registers of an image
 
@@ -63,21 +63,21 @@ module _ (image : List ℕ) (h : AreBytes image) where
       let e = bytes-number (take 4 d) (length-take-le 4 d (omega (arith, length-drop o image))) (areBytes-take 4 d (areBytes-drop o image h)) in
       ap (λ (x : List ℕ). x ++ drop (o + 4) image) e ∙ rw (← drop-drop 4 o image) (take-append-drop 4 d)
 
-  cell-again : (r : ℕ) → offset (suc r) ≤ length image → cellBytes (cellIn image r) ++ drop (offset (suc r)) image ≡ drop (offset r) image
+  cell-again : (r : ℕ) → imageOffset (suc r) ≤ length image → cellBytes (cellIn image r) ++ drop (imageOffset (suc r)) image ≡ drop (imageOffset r) image
   cell-again r l =
-      let o : ℕ = offset r in
+      let o : ℕ = imageOffset r in
       let c : Cell = cellIn image r in
       let e₄ : o + 4 + 4 ≡ o + 8 = omega arith in
       let e₈ : suc (o + 8) ≡ o + 9 = omega arith in
-      let e₉ : suc (o + 9) ≡ offset (suc r) = omega arith in
-      let counts : c .busy ∷ c .landing ∷ drop (offset (suc r)) image ≡ drop (o + 4 + 4) image =
+      let e₉ : suc (o + 9) ≡ imageOffset (suc r) = omega arith in
+      let counts : c .busy ∷ c .landing ∷ drop (imageOffset (suc r)) image ≡ drop (o + 4 + 4) image =
       rw (e₄, drop-cons image (o + 8) 0 (omega arith), e₈, drop-cons image (o + 9) 0 (omega arith), e₉) in
       ap (λ (x : List ℕ). bytes 4 (c .value) ++ (bytes 4 (c .waiting) ++ x)) counts
       ∙ ap (λ (x : List ℕ). bytes 4 (c .value) ++ x) (word-again (o + 4) (omega arith))
       ∙ word-again o (omega arith)
 
-  cells-again : (r n : ℕ) → offset (r + n) ≡ length image → registerBytes (cellsFrom image r n) ≡ drop (offset r) image
-  cells-again r zero e = let end : offset r ≡ length image = omega arith in rw (end, drop-length image)
+  cells-again : (r n : ℕ) → imageOffset (r + n) ≡ length image → registerBytes (cellsFrom image r n) ≡ drop (imageOffset r) image
+  cells-again r zero e = let end : imageOffset r ≡ length image = omega arith in rw (end, drop-length image)
   cells-again r (suc n) e =
       ap (λ (x : List ℕ). cellBytes (cellIn image r) ++ x) (cells-again (suc r) n (omega arith)) ∙ cell-again r (omega arith)
 
@@ -101,9 +101,9 @@ AllSmall l = (r : ℕ) → Small (at l r)
 word-back : (image : List ℕ) (o v : ℕ) (rest : List ℕ) → v < 2 ^ 32 → drop o image ≡ bytes 4 v ++ rest → wordAt o image ≡ v
 word-back image o v rest h e = ap (λ (x : List ℕ). number (take 4 x)) e ∙ number-bytes 4 v ∙ mod-eq-of-lt h
 
-cell-back : (image : List ℕ) (r : ℕ) (c : Cell) (rest : List ℕ) → Small c → drop (offset r) image ≡ cellBytes c ++ rest → cellIn image r ≡ c
+cell-back : (image : List ℕ) (r : ℕ) (c : Cell) (rest : List ℕ) → Small c → drop (imageOffset r) image ≡ cellBytes c ++ rest → cellIn image r ≡ c
 cell-back image r c rest s e =
-    let o : ℕ = offset r in
+    let o : ℕ = imageOffset r in
     λ k.
     record {
       value = word-back image o (c .value) _ (s .value) e k;
@@ -112,11 +112,11 @@ cell-back image r c rest s e =
       landing = (sym (getD-drop o image 9 0) ∙ ap (λ (x : List ℕ). getD x 9 0) e) k;
     }
 
-cells-back : (image : List ℕ) (r : ℕ) (l : Registers) → AllSmall l → drop (offset r) image ≡ registerBytes l → cellsFrom image r (length l) ≡ l
+cells-back : (image : List ℕ) (r : ℕ) (l : Registers) → AllSmall l → drop (imageOffset r) image ≡ registerBytes l → cellsFrom image r (length l) ≡ l
 cells-back image r [] s e = refl
 cells-back image r (c ∷ l) s e =
-    let next : offset r + 10 ≡ offset (suc r) = omega arith in
-    let rest : drop (offset (suc r)) image ≡ registerBytes l = rw (← next, ← drop-drop 10 (offset r) image, e) in
+    let next : imageOffset r + 10 ≡ imageOffset (suc r) = omega arith in
+    let rest : drop (imageOffset (suc r)) image ≡ registerBytes l = rw (← next, ← drop-drop 10 (imageOffset r) image, e) in
     λ k. cell-back image r c (registerBytes l) (s 0) e k ∷ cells-back image (suc r) l (λ i. s (suc i)) rest k
 
 pub read-image : (place : ℕ) (l : Registers) → place < 2 ^ 32 → length l ≡ 288 → AllSmall l
@@ -133,10 +133,10 @@ module _ (image : List ℕ) (h : AreBytes image) where
   cellsFrom-small r zero i = record { value = omega arith; waiting = omega arith; busy = omega arith; landing = omega arith }
   cellsFrom-small r (suc n) zero =
       record {
-        value = numberAt-lt 4 (offset r) image h;
-        waiting = numberAt-lt 4 (offset r + 4) image h;
-        busy = h (offset r + 8);
-        landing = h (offset r + 9);
+        value = numberAt-lt 4 (imageOffset r) image h;
+        waiting = numberAt-lt 4 (imageOffset r + 4) image h;
+        busy = h (imageOffset r + 8);
+        landing = h (imageOffset r + 9);
       }
   cellsFrom-small r (suc n) (suc i) = cellsFrom-small (suc r) n i
 

@@ -3,6 +3,5 @@ pub mod Images
 pub mod Validity
 pub mod Written
 pub mod Phases
-pub mod Instance
+pub mod Acts
 pub mod Aimed
-pub mod Stays

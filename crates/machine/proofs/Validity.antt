@@ -13,7 +13,7 @@ use Rattle.word.proofs.Choice.{is-false, never-both, or-false, and-true}
 use Rattle.word.proofs.Lists.{anyBelow-false, anyBelow-none}
 use Rattle.vliw.specs.Cell.{Cell, Registers, still, at}
 use Rattle.machine.specs.State.{registersOf, Sized}
-use Rattle.machine.specs.Valid.{isZeroRegister, allZero, cellBreaks}
+use Rattle.machine.specs.Valid.{isZeroRegister, allZero, badRegister}
 use Rattle.machine.specs.declared.State.{State}
 use Rattle.machine.proofs.Arrays.{cellOf, general-at, branch-at}
 
@@ -33,14 +33,14 @@ anyBelow-same f g (suc n) h = rw (h n (le-refl (suc n)), anyBelow-same f g n (λ
 
 -- the test of register r + i, in a bank from register r up
 abbrev pub breaksAt : ℕ → List ℕ → List ℕ → List ℕ → List ℕ → ℕ → Bool
-breaksAt r vs ws bs ls i = cellBreaks (r + i) (cellOf vs ws bs ls i)
+breaksAt r vs ws bs ls i = badRegister (r + i) (cellOf vs ws bs ls i)
 
 pub banks-break : {s : State} → Sized s → {a b : Bool}
     → a ≡ anyBelow (breaksAt 0 (s .value) (s .waiting) (s .busy) (s .landing)) (length (s .value))
     → b ≡ anyBelow (breaksAt 256 (s .«branch_value») (s .«branch_waiting») (s .«branch_busy») (s .«branch_landing»)) (length (s .«branch_value»))
-    → a || b ≡ anyBelow (λ r. cellBreaks r (at (registersOf s) r)) 288
+    → a || b ≡ anyBelow (λ r. badRegister r (at (registersOf s) r)) 288
 banks-break {s} z p q =
-    let f : ℕ → Bool = λ r. cellBreaks r (at (registersOf s) r) in
+    let f : ℕ → Bool = λ r. badRegister r (at (registersOf s) r) in
     let g : ℕ → Bool = breaksAt 0 (s .value) (s .waiting) (s .busy) (s .landing) in
     let h : ℕ → Bool = breaksAt 256 (s .«branch_value») (s .«branch_waiting») (s .«branch_busy») (s .«branch_landing») in
     let general = ap (anyBelow g) (z .value) ∙ anyBelow-same g f 256 (λ i l. rw (zero-add i, general-at z i l)) in
@@ -74,7 +74,7 @@ module _ (r : ℕ) (c : Cell) where
         landing = eqb-true (c .landing) 0 (e₃ .1) k;
       }
 
-  -- the tests of `cellBreaks`, in its order
+  -- the tests of `badRegister`, in its order
   abbrev zeroBreaks : Bool
   zeroBreaks = isZeroRegister r && not (allZero c)
 
@@ -90,7 +90,7 @@ module _ (r : ℕ) (c : Cell) where
   abbrev branchBreaks : Bool
   branchBreaks = leb 256 r && (ltb 1 (c .value) || ltb 1 (c .waiting))
 
-  cell-valid : cellBreaks r c ≡ false → ValidCell r c
+  cell-valid : badRegister r c ≡ false → ValidCell r c
   cell-valid h =
       let e₄ = or-false (zeroBreaks || landingBreaks || busyBreaks || waitingBreaks) branchBreaks h in
       let e₃ = or-false (zeroBreaks || landingBreaks || busyBreaks) waitingBreaks (e₄ .0) in
@@ -132,7 +132,7 @@ module _ (r : ℕ) (c : Cell) where
         let b = v .branch (leb-true 256 r (e .0)) in
         never-both (e .1) (rw (le-ltb 1 (c .value) (b .0)) (le-ltb 1 (c .waiting) (b .1))))
 
-    valid-cell : cellBreaks r c ≡ false
+    valid-cell : badRegister r c ≡ false
     valid-cell = λ k. zero-holds k || le-ltb (c .busy) (c .landing) (v .landing) k || le-ltb 7 (c .busy) (v .busy) k || waiting-holds k || branch-holds k
 
 -- ---- all registers
@@ -141,8 +141,8 @@ abbrev pub AllValid : Registers → Type 0
 AllValid l = (r : ℕ) → r < 288 → ValidCell r (at l r)
 
 module _ (l : Registers) where
-  pub registers-valid : anyBelow (λ r. cellBreaks r (at l r)) 288 ≡ false → AllValid l
-  registers-valid h r b = cell-valid r (at l r) (anyBelow-false (λ r. cellBreaks r (at l r)) 288 h r b)
+  pub registers-valid : anyBelow (λ r. badRegister r (at l r)) 288 ≡ false → AllValid l
+  registers-valid h r b = cell-valid r (at l r) (anyBelow-false (λ r. badRegister r (at l r)) 288 h r b)
 
-  pub valid-registers : AllValid l → anyBelow (λ r. cellBreaks r (at l r)) 288 ≡ false
-  valid-registers h = anyBelow-none (λ r. cellBreaks r (at l r)) 288 (λ r b. valid-cell r (at l r) (h r b))
+  pub valid-registers : AllValid l → anyBelow (λ r. badRegister r (at l r)) 288 ≡ false
+  valid-registers h = anyBelow-none (λ r. badRegister r (at l r)) 288 (λ r b. valid-cell r (at l r) (h r b))

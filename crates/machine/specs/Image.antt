@@ -7,8 +7,8 @@ use Rattle.word.specs.Bytes.{bytes, wordAt}
 use Rattle.vliw.specs.Cell.{Cell, Registers}
 
 -- where register r stands in the image; the only definition of it
-abbrev pub offset : ℕ → ℕ
-offset r = 4 + 10 * r
+abbrev pub imageOffset : ℕ → ℕ
+imageOffset r = 4 + 10 * r
 
 abbrev pub placeIn : List ℕ → ℕ
 placeIn image = wordAt 0 image
@@ -16,10 +16,10 @@ placeIn image = wordAt 0 image
 abbrev pub cellIn : List ℕ → ℕ → Cell
 cellIn image r =
     record {
-      value = wordAt (offset r) image;
-      waiting = wordAt (offset r + 4) image;
-      busy = getD image (offset r + 8) 0;
-      landing = getD image (offset r + 9) 0;
+      value = wordAt (imageOffset r) image;
+      waiting = wordAt (imageOffset r + 4) image;
+      busy = getD image (imageOffset r + 8) 0;
+      landing = getD image (imageOffset r + 9) 0;
     }
 
 -- registers r, r + 1, .., n of them

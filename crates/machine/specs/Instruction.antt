@@ -1,99 +1,114 @@
 -- Document 01, "One instruction", of VEX: what an instruction does with the registers' values and the memory.
-use mathlib.Core.Bool.{Bool, _&&_}
+use mathlib.Core.Bool.{Bool}
 use mathlib.Core.List.{List, [], _∷_, map}
 use Prim.Native.Nat.{ℕ}
-use lib.Dec.{eqb, leb}
+use lib.Dec.{eqb}
 use lib.ListN.{getD, length}
 use Rattle.word.specs.Choice.{pick}
 use Rattle.word.specs.Bytes.{numberAt}
 use Rattle.ops.specs.Value.{value, carry, address, loaded, stored}
 use Rattle.vliw.specs.Machine.{Out, fault, stop, go, Instruction}
+use Rattle.vliw.specs.declared.Fault.the-variants.{StoresClash}
 use Rattle.isa.specs.Program.{operationsAt, following}
-use Rattle.isa.specs.Touch.{Way, along, nowhere, to as towards, fork, wayOf, reads, dests, nexts}
+use Rattle.isa.specs.Touch.{reads, dests, nexts}
+use Rattle.isa.specs.Control.{place, turnOf}
+use Rattle.isa.specs.Syllable.{within, isMem, isCopy}
+use Rattle.isa.specs.declared.Turn.{Turn}
+use Rattle.isa.specs.declared.Turn.the-variants.{Onward, Stops, To}
 use Rattle.isa.specs.declared.Op.{Op}
 use Rattle.isa.specs.declared.Delays.{Delays}
-use Rattle.memory.specs.Memory.{sizeOf, access, faultBy, Store, anyShare}
+use Rattle.memory.specs.Memory.{sizeOf, access, faultIn, offsetIn, _orElse_, Store, anyShare}
+use Rattle.memory.specs.declared.Access.{Access}
+use Rattle.memory.specs.declared.FirstFault.{FirstFault}
+use Rattle.memory.specs.declared.FirstFault.the-variants.{None, First}
 
--- an operation with the values of what it reads: s1, s2 or the number, and s3: b, the stored register or a branch's condition
+-- an operation with the values of what it reads: of s1, of s2 or the immediate, of b, and of the register that a store stores
 pub record Fired : Type 0 where
   pub op : Op
   pub x : ℕ
   pub y : ℕ
-  pub z : ℕ
+  pub b : ℕ
+  pub stored : ℕ
 
--- where s2 is register 0 the number stands in: it is 0 unless s2 is an immediate
+-- "General register 0 of each cluster reads zero": where s2 is register 0 the immediate stands in, which is 0 unless s2 is an immediate
 abbrev pub fire : List ℕ → Op → Fired
 fire f o =
     record {
       op = o;
       x = getD f (o .s1) 0;
-      y = pick (eqb (o .s2) 0) (o .number) (getD f (o .s2) 0);
-      z = getD f (o .s3) 0;
+      y = pick (eqb (o .s2) 0) (o .immediate) (getD f (o .s2) 0);
+      b = getD f (o .b) 0;
+      stored = getD f (o .stored) 0;
     }
 
 abbrev pub isLoad : Op → Bool
-isLoad o = leb 52 (o .opcode) && leb (o .opcode) 56
+isLoad o = within 52 56 (o .opcode)
 
 abbrev pub isStore : Op → Bool
-isStore o = leb 57 (o .opcode) && leb (o .opcode) 59
+isStore o = within 57 59 (o .opcode)
 
 abbrev pub addressOf : Fired → ℕ
-addressOf e = address (e .x) (e .op .number)
+addressOf e = address (e .x) (e .op .offset)
+
+-- where its access goes in a memory of so many bytes
+abbrev pub accessOf : ℕ → Fired → Access
+accessOf length e = access length (sizeOf (e .op .opcode)) (addressOf e)
 
 -- the first result: of a load what is loaded, of a copy its source, of others the operation's value
 abbrev pub resultOf : List ℕ → Fired → ℕ
 resultOf m e =
-    pick (isLoad (e .op)) (loaded (e .op .opcode) (numberAt (sizeOf (e .op .opcode)) (addressOf e) m))
-    (pick (eqb (e .op .opcode) 60) (e .x) (value (e .op .opcode) (e .x) (e .y) (e .z)))
+    pick (isLoad (e .op)) (loaded (e .op .opcode) (numberAt (sizeOf (e .op .opcode)) (offsetIn (accessOf (length m) e)) m))
+    (pick (isCopy (e .op .opcode)) (e .x) (value (e .op .opcode) (e .x) (e .y) (e .b)))
 
 -- a value for each destination that is not register 0, addcg's sum before its carry
 abbrev pub valueIn : ℕ → ℕ → List ℕ → List ℕ
 valueIn register v more = pick (eqb register 0) more (v ∷ more)
 
-abbrev pub values : List ℕ → List Fired → List ℕ
-values m [] = []
-values m (e ∷ es) =
-    let more = values m es in
-    valueIn (e .op .t1) (resultOf m e) (valueIn (e .op .t2) (carry (e .x) (e .y) (e .z)) more)
+abbrev pub resultValues : List ℕ → List Fired → List ℕ
+resultValues m [] = []
+resultValues m (e ∷ es) =
+    let more = resultValues m es in
+    valueIn (e .op .t) (resultOf m e) (valueIn (e .op .carry) (carry (e .x) (e .y) (e .b)) more)
 
-abbrev pub storesOf : List Fired → List Store
-storesOf [] = []
-storesOf (e ∷ es) =
-    let more = storesOf es in
-    let s : Store = record { at = addressOf e; size = sizeOf (e .op .opcode); value = stored (e .op .opcode) (e .z) } in
+abbrev pub storesOf : ℕ → List Fired → List Store
+storesOf length [] = []
+storesOf length (e ∷ es) =
+    let more = storesOf length es in
+    let s : Store = record { at = offsetIn (accessOf length e); size = sizeOf (e .op .opcode); value = stored (e .op .opcode) (e .stored) } in
     pick (isStore (e .op)) (s ∷ more) more
 
--- "syllable by syllable, 12 before 13"; 0 for no fault
-abbrev pub faultOf : ℕ → List Fired → ℕ
-faultOf length [] = 0
-faultOf length (e ∷ es) =
-    let more = faultOf length es in
-    pick (leb 52 (e .op .opcode) && leb (e .op .opcode) 59) (faultBy (access length (sizeOf (e .op .opcode)) (addressOf e)) more) more
+abbrev pub accessFault : ℕ → Fired → FirstFault
+accessFault length e = pick (isMem (e .op .opcode)) (faultIn (accessOf length e)) None
+
+-- "syllable by syllable, 12 before 13"
+abbrev pub faultOf : ℕ → List Fired → FirstFault
+faultOf length [] = None
+faultOf length (e ∷ es) = accessFault length e orElse faultOf length es
 
 -- where it goes on: the one control syllable decides; nothing where it stops
 pub data Next : Type 0 where
   at : ℕ → Next
   stops : Next
 
-abbrev pub nextBy : Way → ℕ → ℕ → Next → Next
-nextBy along z following others = others
-nextBy nowhere z following others = stops
-nextBy (towards target) z following others = at target
-nextBy (fork wanted target) z following others = pick (eqb z wanted) (at target) (at following)
+abbrev pub nextBy : Turn → Next → Next
+nextBy Onward others = others
+nextBy Stops others = stops
+nextBy (To target) others = at (target .0)
 
 abbrev pub nextOf : ℕ → List Fired → Next
 nextOf following [] = at following
-nextOf following (e ∷ es) = nextBy (wayOf (e .op)) (e .z) following (nextOf following es)
+nextOf following (e ∷ es) = nextBy (turnOf (e .op .way) (e .b) (place following)) (nextOf following es)
 
-abbrev pub faulted : ℕ → Out Store → Out Store
-faulted k otherwise = pick (eqb k 0) otherwise (fault k)
+abbrev pub faulted : FirstFault → Out Store → Out Store
+faulted None otherwise = otherwise
+faulted (First f) otherwise = fault f
 
 -- "all operands and loaded bytes are read before anything is written": 12 and 13, then 14, then the results and the stores
 abbrev pub outBy : Next → List ℕ → List Fired → Out Store
 outBy stops m es = stop
 outBy (at j) m es =
-    let ss = storesOf es in
-    faulted (faultOf (length m) es) (pick (anyShare ss) (fault 14) (go (values m es) ss j))
+    let ss = storesOf (length m) es in
+    faulted (faultOf (length m) es) (pick (anyShare ss) (fault StoresClash) (go (resultValues m es) ss j))
 
 unfoldable pub acts : ℕ → List Op → List ℕ → List ℕ → Out Store
 acts following os f m = let es = map (fire f) os in outBy (nextOf following es) m es

@@ -15,16 +15,16 @@ isZeroRegister r = ltb r 256 && eqb (r % 64) 0
 abbrev pub allZero : Cell → Bool
 allZero c = eqb (c .value) 0 && eqb (c .waiting) 0 && eqb (c .busy) 0 && eqb (c .landing) 0
 
-abbrev pub cellBreaks : ℕ → Cell → Bool
-cellBreaks r c =
+abbrev pub badRegister : ℕ → Cell → Bool
+badRegister r c =
     (isZeroRegister r && not (allZero c))
     || ltb (c .busy) (c .landing)
     || ltb 7 (c .busy)
     || (eqb (c .landing) 0 && not (eqb (c .waiting) 0))
     || (leb 256 r && (ltb 1 (c .value) || ltb 1 (c .waiting)))
 
-abbrev pub breaksWith : List ℕ → ℕ → Registers → Bool
-breaksWith program place registers = not (isStart program place) || anyBelow (λ r. cellBreaks r (at registers r)) 288
+abbrev pub badStateWith : List ℕ → ℕ → Registers → Bool
+badStateWith program place registers = not (isStart program place) || anyBelow (λ r. badRegister r (at registers r)) 288
 
-unfoldable pub stateBreaks : List ℕ → List ℕ → Bool
-stateBreaks program image = breaksWith program (placeIn image) (registersIn image)
+unfoldable pub badState : List ℕ → List ℕ → Bool
+badState program image = badStateWith program (placeIn image) (registersIn image)

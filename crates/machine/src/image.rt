@@ -3,12 +3,20 @@ ghost use mathlib.Core.Path.{_≡_};
 ghost use Prim.Native.Nat.{_+_, _^_, _≤_, _<_};
 ghost use lib.ListN.{length};
 ghost use lib.Seq.{sets};
-ghost use Rattle.machine.specs.Image.{offset, placeIn, cellsFrom, registersIn, cellBytes, registerBytes, imageOf};
+ghost use Rattle.machine.specs.Image.{imageOffset, placeIn, cellsFrom, registersIn, cellBytes, registerBytes, imageOf};
 ghost use Rattle.machine.specs.State.{cells, registersOf, Sized};
 use crate::State;
 use isa::Place;
 use word::number::put_word;
 use word::number::word_at;
+
+// Where register `r` stands in the image.
+pub fn offset(r: usize) -> usize
+    requires { ⌜ r < 288 ⌝ }
+    ensures { λ at. ⌜ at ≡ imageOffset r ⌝ }
+{
+    4 + 10 * r
+}
 
 // The registers from `base` up, as many as the arrays hold: general ones from 0, branch ones from 256.
 fn read_bank(
@@ -19,13 +27,13 @@ fn read_bank(
     busy: &mut [u8],
     landing: &mut [u8],
 )
-    requires { ⌜ offset (base + length (now value)) ≤ length (now image) ⌝ }
+    requires { ⌜ (length (now image) ≡ 2884) × (base + length (now value) ≤ 288) ⌝ }
     requires { ⌜ (length (now waiting) ≡ length (now value)) × (length (now busy) ≡ length (now value)) × (length (now landing) ≡ length (now value)) ⌝ }
     ensures { λ _. ⌜ cells (now (value .exit)) (now (waiting .exit)) (now (busy .exit)) (now (landing .exit))
         ≡ cellsFrom (now (image .entry)) base (length (now (value .entry))) ⌝ }
 {
     for i in 0..value.len() {
-        let at = 4 + 10 * (base + i);
+        let at = offset(base + i);
         value[i] = word_at(image, at);
         waiting[i] = word_at(image, at + 4);
         busy[i] = image[at + 8];
@@ -72,11 +80,11 @@ pub fn read(image: &[u8]) -> State
 
 // Register `r`, over what the image holds of it.
 fn put_cell(image: &mut [u8], r: usize, value: u32, waiting: u32, busy: u8, landing: u8)
-    requires { ⌜ offset (r + 1) ≤ length (now image) ⌝ }
+    requires { ⌜ (length (now image) ≡ 2884) × (r < 288) ⌝ }
     ensures { λ _. ⌜ now (image .exit)
-        ≡ sets (now (image .entry)) (offset r) (cellBytes (record { value = value; waiting = waiting; busy = busy; landing = landing })) ⌝ }
+        ≡ sets (now (image .entry)) (imageOffset r) (cellBytes (record { value = value; waiting = waiting; busy = busy; landing = landing })) ⌝ }
 {
-    let at = 4 + 10 * r;
+    let at = offset(r);
     put_word(image, at, value);
     put_word(image, at + 4, waiting);
     image[at + 8] = busy;
@@ -92,10 +100,10 @@ fn put_bank<'a>(
     busy: &'a [u8],
     landing: &'a [u8],
 )
-    requires { ⌜ offset (base + length (now value)) ≤ length (now image) ⌝ }
+    requires { ⌜ (length (now image) ≡ 2884) × (base + length (now value) ≤ 288) ⌝ }
     requires { ⌜ (length (now waiting) ≡ length (now value)) × (length (now busy) ≡ length (now value)) × (length (now landing) ≡ length (now value)) ⌝ }
     ensures { λ _. ⌜ now (image .exit)
-        ≡ sets (now (image .entry)) (offset base) (registerBytes (cells (now (value .entry)) (now (waiting .entry)) (now (busy .entry)) (now (landing .entry)))) ⌝ }
+        ≡ sets (now (image .entry)) (imageOffset base) (registerBytes (cells (now (value .entry)) (now (waiting .entry)) (now (busy .entry)) (now (landing .entry)))) ⌝ }
 {
     for i in 0..value.len() {
         put_cell(image, base + i, value[i], waiting[i], busy[i], landing[i]);

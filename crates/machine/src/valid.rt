@@ -5,12 +5,12 @@ ghost use lib.ListN.{length, getD};
 ghost use Rattle.word.specs.Lists.{anyBelow};
 ghost use Rattle.vliw.specs.Cell.{at};
 ghost use Rattle.machine.specs.State.{registersOf, Sized};
-ghost use Rattle.machine.specs.Valid.{cellBreaks};
+ghost use Rattle.machine.specs.Valid.{badRegister};
 use crate::State;
 
 // Document 01's sentence, test by test. No branch, since a valid state goes through every test.
 fn cell_breaks(r: usize, value: u32, waiting: u32, busy: u8, landing: u8) -> bool
-    ensures { λ b. ⌜ b ≡ cellBreaks r (record { value = value; waiting = waiting; busy = busy; landing = landing }) ⌝ }
+    ensures { λ b. ⌜ b ≡ badRegister r (record { value = value; waiting = waiting; busy = busy; landing = landing }) ⌝ }
 {
     (r < 256) & (r % 64 == 0) & !((value == 0) & (waiting == 0) & (busy == 0) & (landing == 0))
         | (busy < landing)
@@ -29,7 +29,7 @@ fn bank_breaks<'a>(
 ) -> bool
     requires { ⌜ base + length (now value) ≤ 288 ⌝ }
     requires { ⌜ (length (now waiting) ≡ length (now value)) × (length (now busy) ≡ length (now value)) × (length (now landing) ≡ length (now value)) ⌝ }
-    ensures { λ b. ⌜ b ≡ anyBelow (λ i. cellBreaks (base + i) (record {
+    ensures { λ b. ⌜ b ≡ anyBelow (λ i. badRegister (base + i) (record {
       value = getD (now (value .entry)) i 0;
       waiting = getD (now (waiting .entry)) i 0;
       busy = getD (now (busy .entry)) i 0;
@@ -44,9 +44,9 @@ fn bank_breaks<'a>(
 }
 
 // Whether the state's registers break a rule; its place is not looked at.
-pub fn registers_break(s: State) -> bool
+pub fn bad_registers(s: State) -> bool
     requires { ⌜ Sized s ⌝ }
-    ensures { λ b. ⌜ b ≡ anyBelow (λ r. cellBreaks r (at (registersOf s) r)) 288 ⌝ }
+    ensures { λ b. ⌜ b ≡ anyBelow (λ r. badRegister r (at (registersOf s) r)) 288 ⌝ }
 {
     bank_breaks(0, &s.value, &s.waiting, &s.busy, &s.landing)
         | bank_breaks(

@@ -5,14 +5,19 @@ use mathlib.Core.List.{List, [], _∷_, _++_}
 use Prim.Native.Nat.{ℕ, zero, suc, _+_, _-_, _%_, _≤_, _<_}
 use native.Mathlib.Omega.{arith}
 use native.Mathlib.Numerals.{add-one}
+use lib.Dec.{eqb, ltb}
 use lib.Bits.{bitAnd, and-mask}
 use lib.ListN.{length, getD, set, length-set}
 use lib.Seq.{getD-set-same, getD-set-other}
 use borrow.Author.Count.{below-none, below-more}
+use borrow.Author.Tests.{ltb-false}
 use Rattle.word.specs.Lists.{any}
 use Rattle.word.proofs.Lists.{any-append}
+use Rattle.vliw.specs.declared.Fault.the-variants.{Misaligned, OutOfBounds}
 use Rattle.vliw.specs.Machine.{stores}
-use Rattle.memory.specs.Memory.{Store, store, share, anyShare}
+use Rattle.memory.specs.Memory.{access, Store, store, share, anyShare}
+use Rattle.memory.specs.declared.Access.{Access}
+use Rattle.memory.specs.declared.Access.the-variants.{To, Refused}
 use Rattle.memory.specs.Held.{storesIn, Width, Within, Stores}
 
 -- a mask takes the remainder
@@ -23,6 +28,30 @@ mask-width {n = suc (suc zero)} w a = and-mask a 1
 mask-width {n = suc (suc (suc zero))} w a = absurd (w .three refl)
 mask-width {n = suc (suc (suc (suc zero)))} w a = and-mask a 2
 mask-width {n = suc (suc (suc (suc (suc n))))} w a = absurd (omega arith)
+
+-- ---- where an access goes
+
+-- inside a memory of m bytes, or it is refused
+pub data Goes (m size address : ℕ) : Access → Type 0 where
+  inside : size + address ≤ m → Goes m size address (To address)
+  misaligned : Goes m size address (Refused Misaligned)
+  outside : Goes m size address (Refused OutOfBounds)
+
+pub goes : (m size address : ℕ) → Goes m size address (access m size address)
+goes m size address = by (eqb (address % size) 0) refl (ltb m (size + address)) refl
+  where
+    by : (even : Bool) → eqb (address % size) 0 ≡ even → (far : Bool) → ltb m (size + address) ≡ far → Goes m size address (access m size address)
+    by false e far f = rw e misaligned
+    by true e true f = rw (e, f) outside
+    by true e false f = rw (e, f) (inside (ltb-false _ _ f))
+
+pub access-within : {m size a : ℕ} (address : ℕ) → Width size → access m size address ≡ To a → Within a size m
+access-within {m} {size} {a} address w e = by (goes m size address) e
+  where
+    by : {x : Access} → Goes m size address x → x ≡ To a → Within a size m
+    by (inside f) e = let q : address ≡ a = cc in record { width = w; inside = omega arith }
+    by misaligned e = let z : _≡_ {A = ℕ} 0 1 = cc in absurd (omega arith)
+    by outside e = let z : _≡_ {A = ℕ} 0 1 = cc in absurd (omega arith)
 
 -- ---- lists of stores
 

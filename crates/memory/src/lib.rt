@@ -1,5 +1,6 @@
 // Loads and stores of an instruction: the fault of an access, what is read, and the stores, which wait until everything is read.
 use ops::loaded;
+use vliw::Fault;
 use word::number::byte_at;
 use word::number::half_at;
 use word::number::put_byte;
@@ -8,16 +9,28 @@ use word::number::put_word;
 use word::number::word_at;
 ghost use mathlib.Core.Path.{_≡_};
 ghost use mathlib.Core.Bool.{_&&_};
-ghost use mathlib.Core.List.{List, [], _∷_, _++_};
+ghost use mathlib.Core.List.{List};
 ghost use Prim.Native.Nat.{ℕ, _+_, _≤_, _<_};
 ghost use lib.Dec.{ltb};
-ghost use lib.ListN.{length, getD};
+ghost use lib.ListN.{length, getD, set};
 ghost use Rattle.word.specs.Bytes.{numberAt, putNumber};
 ghost use Rattle.word.specs.Lists.{any};
 ghost use Rattle.ops.specs.Value.{loaded};
 ghost use Rattle.vliw.specs.Machine.{stores};
-ghost use Rattle.memory.specs.Memory.{sizeOf, access, store, share, anyShare, faultBy};
+ghost use Rattle.memory.specs.Memory.{sizeOf, access, store, share, anyShare};
 ghost use Rattle.memory.specs.Held.{Width, Within, Stores, storesIn};
+
+// Where an access goes: to memory, at an offset, or nowhere.
+pub enum Access {
+    To(u32),
+    Refused(Fault),
+}
+
+// The first fault of an instruction's accesses, if there is one.
+pub enum FirstFault {
+    None,
+    First(Fault),
+}
 
 // How many bytes the operation accesses.
 pub fn size(opcode: u32) -> u32
@@ -34,19 +47,20 @@ pub fn size(opcode: u32) -> u32
     }
 }
 
-// The fault of an access, 12 before 13, or 0. The sum is not reduced.
-pub fn fault(length: usize, size: u32, address: u32) -> u64
+// Where an access of `size` bytes goes. The sum is not reduced.
+pub fn access_at(length: usize, size: u32, address: u32) -> Access
     requires { ⌜ Width size ⌝ }
-    ensures is { λ r. ⌜ r ≡ faultBy (access length size address) 0 ⌝ }
-    ensures within { λ r. ⌜ (r ≡ 0 → Within address size length) ⌝ }
+    ensures { λ r. ⌜ r ≡ access length size address ⌝ }
 {
     let low = address & (size - 1);
     let end = size as usize + address as usize;
     if low != 0 {
-        12
-    } else {
-        if length < end { 13 } else { 0 }
+        return Access::Refused(Fault::Misaligned);
     }
+    if length < end {
+        return Access::Refused(Fault::OutOfBounds);
+    }
+    Access::To(address)
 }
 
 // What the load `opcode` loads. Each size widens for itself, so that the compiled code tests the opcode once.
@@ -84,35 +98,40 @@ fn store(memory: &mut [u8], at: u32, size: u32, value: u32)
     }
 }
 
-// One more store of the instruction: the low n bytes of v, at a.
+// One more store of the instruction: the low `size` bytes of `content`, at `offset`.
 pub fn note_store(
-    at: &mut [u32; 32],
-    val: &mut [u32; 32],
-    size: &mut [u32; 32],
+    offsets: &mut [u32; 32],
+    contents: &mut [u32; 32],
+    sizes: &mut [u32; 32],
     count: usize,
-    a: u32,
-    v: u32,
-    n: u32,
+    offset: u32,
+    content: u32,
+    size: u32,
 )
-    requires { ⌜ (length (now at) ≡ 32) × (length (now val) ≡ 32) × (length (now size) ≡ 32) × (count < 32) ⌝ }
-    ensures is { λ _. ⌜ storesIn (now (at .exit)) (now (val .exit)) (now (size .exit)) (count + 1)
-        ≡ storesIn (now (at .entry)) (now (val .entry)) (now (size .entry)) count ++ (record { at = a; size = n; value = v } ∷ []) ⌝ }
-    ensures within { λ _. ⌜ ((m : ℕ) → Within a n m → Stores (now (at .entry)) (now (val .entry)) (now (size .entry)) count m
-        → Stores (now (at .exit)) (now (val .exit)) (now (size .exit)) (count + 1) m) ⌝ }
+    requires { ⌜ (length (now offsets) ≡ 32) × (length (now contents) ≡ 32) × (length (now sizes) ≡ 32) × (count < 32) ⌝ }
+    ensures offsets { λ _. ⌜ now (offsets .exit) ≡ set (now (offsets .entry)) count offset ⌝ }
+    ensures contents { λ _. ⌜ now (contents .exit) ≡ set (now (contents .entry)) count content ⌝ }
+    ensures sizes { λ _. ⌜ now (sizes .exit) ≡ set (now (sizes .entry)) count size ⌝ }
 {
-    at[count] = a;
-    val[count] = v;
-    size[count] = n;
+    offsets[count] = offset;
+    contents[count] = content;
+    sizes[count] = size;
 }
 
 // The stores of an instruction, in order.
-pub fn store_all(memory: &mut [u8], at: &[u32; 32], val: &[u32; 32], size: &[u32; 32], count: usize)
-    requires { ⌜ Stores (now at) (now val) (now size) count (length (now memory)) ⌝ }
+pub fn store_all(
+    memory: &mut [u8],
+    offsets: &[u32; 32],
+    contents: &[u32; 32],
+    sizes: &[u32; 32],
+    count: usize,
+)
+    requires { ⌜ Stores (now offsets) (now contents) (now sizes) count (length (now memory)) ⌝ }
     ensures { λ _. ⌜ now (memory .exit)
-        ≡ stores store (storesIn (now (at .entry)) (now (val .entry)) (now (size .entry)) count) (now (memory .entry)) ⌝ }
+        ≡ stores store (storesIn (now (offsets .entry)) (now (contents .entry)) (now (sizes .entry)) count) (now (memory .entry)) ⌝ }
 {
     for k in 0..count {
-        store(memory, at[k], size[k], val[k]);
+        store(memory, offsets[k], sizes[k], contents[k]);
     }
 }
 
@@ -124,16 +143,16 @@ fn share(a: u32, n: u32, b: u32, m: u32) -> bool
 }
 
 // Whether store i shares a byte with one before it. Values do not matter.
-fn share_one(at: &[u32; 32], size: &[u32; 32], i: usize) -> bool
+fn share_one(offsets: &[u32; 32], sizes: &[u32; 32], i: usize) -> bool
     requires { ⌜ i < 32 ⌝ }
     ensures { λ r. ⌜ ((vs : List ℕ) → r
-        ≡ any (λ s. share s (record { at = getD (now (at .entry)) i 0; size = getD (now (size .entry)) i 0; value = getD vs i 0 }))
-        (storesIn (now (at .entry)) vs (now (size .entry)) i)) ⌝ }
+        ≡ any (λ s. share s (record { at = getD (now (offsets .entry)) i 0; size = getD (now (sizes .entry)) i 0; value = getD vs i 0 }))
+        (storesIn (now (offsets .entry)) vs (now (sizes .entry)) i)) ⌝ }
 {
     let mut k = i;
     while 0 < k {
         k -= 1;
-        if share(at[k], size[k], at[i], size[i]) {
+        if share(offsets[k], sizes[k], offsets[i], sizes[i]) {
             return true;
         }
     }
@@ -141,14 +160,14 @@ fn share_one(at: &[u32; 32], size: &[u32; 32], i: usize) -> bool
 }
 
 // Whether two stores of the instruction share a byte.
-pub fn shared(at: &[u32; 32], size: &[u32; 32], count: usize) -> bool
+pub fn shared(offsets: &[u32; 32], sizes: &[u32; 32], count: usize) -> bool
     requires { ⌜ count ≤ 32 ⌝ }
-    ensures { λ r. ⌜ ((vs : List ℕ) → r ≡ anyShare (storesIn (now (at .entry)) vs (now (size .entry)) count)) ⌝ }
+    ensures { λ r. ⌜ ((vs : List ℕ) → r ≡ anyShare (storesIn (now (offsets .entry)) vs (now (sizes .entry)) count)) ⌝ }
 {
     let mut i = count;
     while 1 < i {
         i -= 1;
-        if share_one(at, size, i) {
+        if share_one(offsets, sizes, i) {
             return true;
         }
     }

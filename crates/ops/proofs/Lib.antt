@@ -1,4 +1,2 @@
-mod Product
 mod Rows
-mod Signed
 pub mod Laws

@@ -11,7 +11,7 @@ use mir.Facts.{and-yes, or-yes}
 use mir.Val.{hasKey}
 use types.Run.{OneOf, hit}
 use Rattle.word.specs.Lists.{any}
-use Rattle.ops.specs.Value.{values, row, value}
+use Rattle.meanings.specs.Value.{values, row, value}
 
 -- an opcode's own row
 pub at-row : (k x y b : ℕ) {opcode r : ℕ} → opcode ≡ k → r ≡ row k x y b → r ≡ value opcode x y b

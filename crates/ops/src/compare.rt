@@ -1,7 +1,7 @@
 // Opcodes 15 to 18 and 30 to 49: the larger, the smaller and the ten comparisons, 1 or 0.
 ghost use mathlib.Core.Path.{_≡_};
-ghost use Rattle.ops.specs.Value.{row};
-ghost use Rattle.ops.specs.Arith.{below};
+ghost use Rattle.meanings.specs.Value.{row};
+ghost use Rattle.meanings.specs.Arith.{below};
 use crate::choice::bit;
 use crate::choice::choose;
 

@@ -1,6 +1,6 @@
 // Opcodes 19 to 22: the low bits of s1, widened.
 ghost use mathlib.Core.Path.{_≡_};
-ghost use Rattle.ops.specs.Value.{row};
+ghost use Rattle.meanings.specs.Value.{row};
 use crate::choice::choose;
 
 pub fn sxtb(s1: u32) -> u32

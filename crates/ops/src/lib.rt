@@ -1,6 +1,5 @@
 // The operations' values: one function for each, and a dispatch by opcode over them.
 ghost use mathlib.Core.Path.{_≡_};
-ghost use Rattle.ops.specs.Signed.{Meanings};
 ghost use Rattle.ops.specs.Value.{value};
 
 mod choice;
@@ -67,9 +66,3 @@ pub fn value(opcode: u32, s1: u32, s2: u32, b: u32) -> u32
         _ => 0,
     }
 }
-
-// The signed operations mean on integers what their names say. The function does nothing: its promise is the theorem, so
-// that nobody drops it unseen.
-pub fn meanings()
-    ensures { λ _. ⌜ Meanings ⌝ }
-{}

@@ -1,6 +1,6 @@
 // Opcodes 3 to 7, bit by bit.
 ghost use mathlib.Core.Path.{_≡_};
-ghost use Rattle.ops.specs.Value.{row};
+ghost use Rattle.meanings.specs.Value.{row};
 
 pub fn and(s1: u32, s2: u32) -> u32
     ensures { λ r. ⌜ r ≡ row 3 s1 s2 0 ⌝ }

@@ -1,8 +1,8 @@
 // Opcodes 24 to 29: 16-bit halves, the first letter for s1, signed unless u.
 ghost use mathlib.Core.Path.{_≡_};
-ghost use Rattle.ops.specs.Value.{row};
+ghost use Rattle.meanings.specs.Value.{row};
 ghost use Prim.Native.Nat.{_*_, _^_, _<_};
-ghost use Rattle.ops.specs.Arith.{wrap};
+ghost use Rattle.meanings.specs.Arith.{wrap};
 use crate::extend::sxth;
 
 // The low 32 bits of a product.

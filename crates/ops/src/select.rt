@@ -1,6 +1,6 @@
 // Opcodes 50 and 51.
 ghost use mathlib.Core.Path.{_≡_};
-ghost use Rattle.ops.specs.Value.{row};
+ghost use Rattle.meanings.specs.Value.{row};
 use crate::choice::choose;
 
 pub fn slct(s1: u32, s2: u32, b: u32) -> u32

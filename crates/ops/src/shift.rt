@@ -1,6 +1,6 @@
 // Opcodes 8 to 10: s1 by the low five bits of s2.
 ghost use mathlib.Core.Path.{_≡_};
-ghost use Rattle.ops.specs.Value.{row};
+ghost use Rattle.meanings.specs.Value.{row};
 use crate::choice::choose;
 
 pub fn shl(s1: u32, s2: u32) -> u32

@@ -1,6 +1,7 @@
 // Opcodes 1, 2, 11 to 14 and 23: sums and a difference, modulo 2^32.
 ghost use mathlib.Core.Path.{_≡_};
-ghost use Rattle.ops.specs.Value.{row, carry};
+ghost use Rattle.meanings.specs.Value.{row};
+ghost use Rattle.ops.specs.Value.{carry};
 
 pub fn add(s1: u32, s2: u32) -> u32
     ensures { λ r. ⌜ r ≡ row 1 s1 s2 0 ⌝ }

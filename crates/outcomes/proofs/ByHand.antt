@@ -1,13 +1,19 @@
 -- The promises that no equation settles by itself, each by its own reason.
-use mathlib.Core.Path.{_≡_, sym, ap, _∙_}
+use mathlib.Core.Path.{_≡_, refl, sym, ap, _∙_}
 use mathlib.Core.Bool.{Bool, true}
-use mathlib.Core.List.{List, []}
+use mathlib.Core.List.{List, [], map}
 use Prim.Native.Nat.{ℕ}
+use native.Mathlib.Omega.{arith}
+use lib.ListN.{length, getD}
 use Rattle.word.specs.Bytes.{words}
 use Rattle.vliw.specs.Run.{run}
 use Rattle.vliw.specs.Machine.{inOrder, step}
 use Rattle.isa.specs.Decode.{decode}
-use Rattle.isa.specs.Program.{following, isStart}
+use Rattle.isa.specs.Program.{spots, operation, following, isStart}
+use Rattle.isa.specs.Touch.{nexts, listed}
+use Rattle.isa.specs.declared.Count.{Count}
+use Rattle.isa.specs.declared.Nexts.{Nexts}
+use Rattle.isa.specs.declared.Nexts.the-variants.{Nowhere, One, Two}
 use Rattle.isa.specs.declared.Op.{Op}
 use Rattle.isa.specs.declared.Place.{Place}
 use Rattle.isa.specs.declared.Table.{Table}
@@ -23,15 +29,33 @@ use Rattle.machine.specs.State.{registersOf, Sized}
 use Rattle.machine.specs.declared.State.{State}
 use Rattle.ticks.specs.Ticks.{views}
 use Rattle.run.specs.Turn.{Returned}
-use Rattle.run.specs.declared.Ran.{Ran}
+use Rattle.run.specs.declared.Left.{Left}
 use Rattle.outcomes.specs.OneOutcome.{OneOutcome}
 use Rattle.outcomes.proofs.States.{place-is, state-is}
 
--- a place is its number
 -- nothing of it goes by the cluster, so take one
-pub isa-still-one : (s : ℕ) → OneOutcome (λ (r : Op). ((c : ℕ) → r ≡ decode c s))
-isa-still-one s a b p q = p 0 ∙ sym (q 0)
+pub isa-decode-still-one : (s : ℕ) → OneOutcome (λ (r : Op). ((c : ℕ) → r ≡ decode c s))
+isa-decode-still-one s a b p q = p 0 ∙ sym (q 0)
 
+-- the nexts are the places that they list
+listed-is : (a b : Nexts) → listed a ≡ listed b → a ≡ b
+listed-is Nowhere Nowhere e = refl
+listed-is Nowhere (One j) e = absurd (omega (arith, ap length e))
+listed-is Nowhere (Two j l) e = absurd (omega (arith, ap length e))
+listed-is (One i) Nowhere e = absurd (omega (arith, ap length e))
+listed-is (One i) (One j) e = ap One (place-is (ap (λ (l : List ℕ). getD l 0 0) e))
+listed-is (One i) (Two j l) e = absurd (omega (arith, ap length e))
+listed-is (Two i k) Nowhere e = absurd (omega (arith, ap length e))
+listed-is (Two i k) (One j) e = absurd (omega (arith, ap length e))
+listed-is (Two i k) (Two j l) e =
+    let first : i ≡ j = place-is (ap (λ (q : List ℕ). getD q 0 0) e) in
+    let second : k ≡ l = place-is (ap (λ (q : List ℕ). getD q 1 0) e) in
+    λ x. Two (first x) (second x)
+
+pub isa-nexts-one : (stretch : List ℕ) (j : Place) → OneOutcome (λ (r : Nexts). listed r ≡ nexts (j .0) (map operation (spots (words stretch))))
+isa-nexts-one stretch j a b p q = listed-is a b (p ∙ sym q)
+
+-- a place is its number
 pub isa-following-one : (program : List ℕ) (at : Place) → OneOutcome (λ (r : Place). r .0 ≡ following (words program) (at .0))
 isa-following-one program at a b p q = place-is (p ∙ sym q)
 
@@ -40,29 +64,29 @@ pub schedule-check-one : (table : Table) (program : List ℕ) → OneOutcome (λ
 schedule-check-one table program = one-verdict (table .delays) (words program)
 
 -- the values do not matter, so take none
-pub memory-shared-one : (at size : List ℕ) (count : ℕ) → OneOutcome (λ (r : Bool). ((vs : List ℕ) → r ≡ anyShare (storesIn at vs size count)))
-memory-shared-one at size count a b p q = p [] ∙ sym (q [])
+pub memory-shared-one : (offsets sizes : List ℕ) (count : ℕ) → OneOutcome (λ (r : Bool). ((vs : List ℕ) → r ≡ anyShare (storesIn offsets vs sizes count)))
+memory-shared-one offsets sizes count a b p q = p [] ∙ sym (q [])
 
 -- a state is its place and its registers
 pub machine-read-one : (image : List ℕ)
     → OneOutcome (λ (r : State). Sized r × ((r .place .0 ≡ placeIn image) × (registersOf r ≡ registersIn image)))
 machine-read-one image a b p q = state-is (p .0) (q .0) (p .1 .1 ∙ sym (q .1 .1)) (p .1 .0 ∙ sym (q .1 .0))
 
-pub ticks-leave-one : (value old ready land : List ℕ) (t : ℕ) (place : Place)
-    → OneOutcome (λ (s : State). Sized s × (s .place ≡ place) × (registersOf s ≡ views t value old ready land))
+pub ticks-leave-one : (value old ready land : List ℕ) (t : Count) (place : Place)
+    → OneOutcome (λ (s : State). Sized s × (s .place ≡ place) × (registersOf s ≡ views (t .0) value old ready land))
 ticks-leave-one value old ready land t place a b p q =
     state-is (p .0) (q .0) (p .2 ∙ sym (q .2)) (ap (λ (x : Place). x .0) (p .1 ∙ sym (q .1)))
 
 -- what the machine's run leaves is what is returned
-pub run-run-one : (table : Table) (program memory landing : List ℕ) (n : ℕ) (s : State)
-    → OneOutcome (λ (o : record { result : Ran; memory : List ℕ }). (isStart (words program) (o .result .state .place .0) ≡ true)
-    × Returned (run (step store (instructionOf (table .delays) (words program))) n
+pub run-run-one : (table : Table) (program memory landing : List ℕ) (n : Count) (s : State)
+    → OneOutcome (λ (o : record { result : Left; memory : List ℕ }). (isStart (words program) (o .result .state .place .0) ≡ true)
+    × Returned (run (step store (instructionOf (table .delays) (words program))) (n .0)
     (record { place = s .place .0; registers = registersOf s; memory = memory; landing = landing; orders = inOrder })) (o .result) (o .memory))
 run-run-one table program memory landing n s a b (_, p) (_, q) =
     let state : a .result .state ≡ b .result .state =
     state-is (p .sized) (q .sized) (sym (p .registers) ∙ q .registers) (sym (p .place) ∙ q .place) in
     λ i. record {
-      result = record { number = (sym (p .number) ∙ q .number) i; count = record { 0 = (sym (p .count) ∙ q .count) i }; state = state i };
+      result = record { ending = (sym (p .ending) ∙ q .ending) i; count = record { 0 = (sym (p .count) ∙ q .count) i }; state = state i };
       memory = (sym (p .memory) ∙ q .memory) i;
     }
 

@@ -1,21 +1,37 @@
 -- Written by tests/public. Two outcomes that meet an equation are equal.
 use mathlib.Core.Path.{_∙_, sym}
 use Rattle.outcomes.specs.Isa.{Isa}
-use Rattle.outcomes.proofs.ByHand.{isa-still-one, isa-following-one}
+use Rattle.outcomes.proofs.ByHand.{isa-nexts-one, isa-decode-still-one, isa-following-one}
 
 pub isa : Isa
 isa = record {
+  control-still-one = λ _ _ _ p q. p ∙ sym q;
+  goto-one = λ _ _ _ p q. p ∙ sym q;
+  fork-one = λ _ _ _ p q. p ∙ sym q;
+  way-one = λ _ _ _ p q. p ∙ sym q;
+  controls-one = λ _ _ _ p q. p ∙ sym q;
+  is-control-one = λ _ _ _ p q. p ∙ sym q;
+  target-one = λ _ _ _ p q. p ∙ sym q;
+  solitary-one = λ _ _ _ p q. p ∙ sym q;
+  leaves-one = λ _ _ _ p q. p ∙ sym q;
+  turn-one = λ _ _ _ _ _ p q. p ∙ sym q;
+  nexts-one = isa-nexts-one;
   immediate-one = λ _ _ _ p q. p ∙ sym q;
   offset-one = λ _ _ _ p q. p ∙ sym q;
   compute-one = λ _ _ _ _ p q. p ∙ sym q;
   access-one = λ _ _ _ _ p q. p ∙ sym q;
   copy-one = λ _ _ _ _ p q. p ∙ sym q;
-  still-one = isa-still-one;
+  decode-still-one = isa-decode-still-one;
   jump-one = λ _ _ _ _ p q. p ∙ sym q;
   decode-one = λ _ _ _ _ p q. p ∙ sym q;
-  syllable-one = λ _ _ _ _ p q. p ∙ sym q;
+  program-syllable-one = λ _ _ _ _ p q. p ∙ sym q;
   following-one = isa-following-one;
   is-start-one = λ _ _ _ _ p q. p ∙ sym q;
+  stretch-syllable-one = λ _ _ _ _ p q. p ∙ sym q;
+  before-all-one = λ _ _ p q. p ∙ sym q;
+  next-spot-one = λ _ _ _ _ p q. p ∙ sym q;
+  cluster-one = λ _ _ _ p q. p ∙ sym q;
+  operation-one = λ _ _ _ p q. p ∙ sym q;
   bits-one = λ _ _ _ _ _ p q. p ∙ sym q;
   holds-one = λ _ _ _ _ _ _ p q. p ∙ sym q;
   ends-one = λ _ _ _ p q. p ∙ sym q;
@@ -27,10 +43,8 @@ isa = record {
   is-mul-one = λ _ _ _ p q. p ∙ sym q;
   is-mem-one = λ _ _ _ p q. p ∙ sym q;
   is-copy-one = λ _ _ _ p q. p ∙ sym q;
-  is-stop-one = λ _ _ _ p q. p ∙ sym q;
-  is-control-one = λ _ _ _ p q. p ∙ sym q;
   breaks-one = λ _ _ _ p q. p ∙ sym q;
   read-one = λ _ _ _ p q. p ∙ sym q;
   delay-one = λ _ _ _ _ _ p q. p ∙ sym q;
-  stray-one = λ _ _ _ p q. p ∙ sym q;
+  bad-bits-one = λ _ _ _ p q. p ∙ sym q;
 }

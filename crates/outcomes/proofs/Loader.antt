@@ -4,9 +4,9 @@ use Rattle.outcomes.specs.Loader.{Loader}
 
 pub loader : Loader
 loader = record {
+  bad-program-length-one = λ _ _ _ p q. p ∙ sym q;
   load-one = λ _ _ _ _ _ p q. p ∙ sym q;
   load-with-one = λ _ _ _ _ _ p q. p ∙ sym q;
-  program-breaks-one = λ _ _ _ p q. p ∙ sym q;
   of-refusal-one = λ _ _ _ p q. p ∙ sym q;
   of-load-one = λ _ _ _ p q. p ∙ sym q;
   write-one = λ _ _ _ _ p q. p ∙ sym q;

@@ -5,9 +5,8 @@ use Rattle.outcomes.proofs.ByHand.{machine-read-one}
 
 pub machine : Machine
 machine = record {
+  offset-one = λ _ _ _ p q. p ∙ sym q;
   read-one = machine-read-one;
   write-one = λ _ _ _ _ p q. p ∙ sym q;
-  of-run-one = λ _ _ _ _ _ p q. p ∙ sym q;
-  of-reply-one = λ _ _ _ p q. p ∙ sym q;
-  registers-break-one = λ _ _ _ p q. p ∙ sym q;
+  bad-registers-one = λ _ _ _ p q. p ∙ sym q;
 }

@@ -10,6 +10,7 @@ use Rattle.outcomes.proofs.Memory.{memory}
 use Rattle.outcomes.proofs.Machine.{machine}
 use Rattle.outcomes.proofs.Ticks.{ticks}
 use Rattle.outcomes.proofs.Run.{run}
+use Rattle.outcomes.proofs.Call.{call}
 use Rattle.outcomes.proofs.Sandbox.{sandbox}
 use Rattle.outcomes.proofs.Text.{text}
 
@@ -24,6 +25,7 @@ public = record {
   machine = machine;
   ticks = ticks;
   run = run;
+  call = call;
   sandbox = sandbox;
   text = text;
   nothing = λ _ _ _ _. refl;

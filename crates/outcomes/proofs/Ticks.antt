@@ -7,5 +7,10 @@ pub ticks : Ticks
 ticks = record {
   made-one = λ _ _ _ _ p q. p ∙ sym q;
   late-one = λ _ _ _ _ _ p q. p ∙ sym q;
+  note-one = λ _ _ _ _ _ _ _ _ _ p q. λ i. record {
+    reg = (p .0 ∙ sym (q .0)) i;
+    val = (p .1 ∙ sym (q .1)) i;
+    del = (p .2 ∙ sym (q .2)) i;
+  };
   leave-one = ticks-leave-one;
 }

@@ -9,6 +9,7 @@ pub mod Memory
 pub mod Machine
 pub mod Ticks
 pub mod Run
+pub mod Call
 pub mod Sandbox
 pub mod Text
 pub mod Public

@@ -4,7 +4,7 @@ use mathlib.Core.List.{List}
 use mathlib.Core.Path.{_≡_}
 use Prim.Native.Nat.{ℕ}
 use Rattle.loader.specs.Answer.{loadAnswer, refusalAnswer, roomWith}
-use Rattle.loader.specs.Broken.{programBreaks}
+use Rattle.loader.specs.Broken.{badProgramLength}
 use Rattle.loader.specs.Load.{loadedOf, loadedWith}
 use Rattle.loader.specs.declared.Answer.{Answer}
 use Rattle.loader.specs.declared.Loaded.{Loaded}
@@ -13,9 +13,9 @@ use Rattle.outcomes.specs.OneOutcome.{OneOutcome}
 
 pub record Loader : Type 0 where
   -- crates/loader/src/numbers.rt
+  pub bad-program-length-one : (program : List ℕ) → OneOutcome (λ (r : Bool). r ≡ badProgramLength program)
   pub load-one : (table program room : List ℕ) → OneOutcome (λ (r : Loaded). r ≡ loadedOf table program room)
   pub load-with-one : (sizes : Loaded) (table program : List ℕ) → OneOutcome (λ (r : Loaded). r ≡ loadedWith sizes table program)
-  pub program-breaks-one : (program : List ℕ) → OneOutcome (λ (r : Bool). r ≡ programBreaks program)
   -- crates/loader/src/answers.rt
   pub of-refusal-one : (r : Refusal) → OneOutcome (λ (a : Answer). a ≡ refusalAnswer r)
   pub of-load-one : (l : Loaded) → OneOutcome (λ (a : Answer). a ≡ loadAnswer l)

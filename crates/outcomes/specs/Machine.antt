@@ -5,23 +5,16 @@ use mathlib.Core.Path.{_≡_}
 use Prim.Native.Nat.{ℕ}
 use Rattle.word.specs.Lists.{anyBelow}
 use Rattle.vliw.specs.Cell.{at}
-use Rattle.isa.specs.declared.Count.{Count}
-use Rattle.isa.specs.declared.Place.{Place}
-use Rattle.loader.specs.declared.Answer.{Answer}
-use Rattle.machine.specs.Image.{imageOf, placeIn, registersIn}
-use Rattle.machine.specs.Reply.{replyAnswer, replyBy}
+use Rattle.machine.specs.Image.{imageOf, imageOffset, placeIn, registersIn}
 use Rattle.machine.specs.State.{Sized, registersOf}
-use Rattle.machine.specs.Valid.{cellBreaks}
-use Rattle.machine.specs.declared.Reply.{Reply}
+use Rattle.machine.specs.Valid.{badRegister}
 use Rattle.machine.specs.declared.State.{State}
 use Rattle.outcomes.specs.OneOutcome.{OneOutcome}
 
 pub record Machine : Type 0 where
   -- crates/machine/src/image.rt
+  pub offset-one : (r : ℕ) → OneOutcome (λ (at : ℕ). at ≡ imageOffset r)
   pub read-one : (image : List ℕ) → OneOutcome (λ (r : State). (Sized r) × ((r .place .0 ≡ placeIn image) × (registersOf r ≡ registersIn image)))
   pub write-one : (image : List ℕ) (s : State) → OneOutcome (λ (image′ : List ℕ). image′ ≡ imageOf (s .place .0) (registersOf s))
-  -- crates/machine/src/replies.rt
-  pub of-run-one : (number : ℕ) (count : Count) (place : Place) → OneOutcome (λ (r : Reply). r ≡ replyBy number count place)
-  pub of-reply-one : (r : Reply) → OneOutcome (λ (a : Answer). a ≡ replyAnswer r)
   -- crates/machine/src/valid.rt
-  pub registers-break-one : (s : State) → OneOutcome (λ (b : Bool). b ≡ anyBelow (λ r. cellBreaks r (at (registersOf s) r)) 288)
+  pub bad-registers-one : (s : State) → OneOutcome (λ (b : Bool). b ≡ anyBelow (λ r. badRegister r (at (registersOf s) r)) 288)

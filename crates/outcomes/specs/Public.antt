@@ -9,6 +9,7 @@ use Rattle.outcomes.specs.Memory.{Memory}
 use Rattle.outcomes.specs.Machine.{Machine}
 use Rattle.outcomes.specs.Ticks.{Ticks}
 use Rattle.outcomes.specs.Run.{Run}
+use Rattle.outcomes.specs.Call.{Call}
 use Rattle.outcomes.specs.Sandbox.{Sandbox}
 use Rattle.outcomes.specs.Text.{Text}
 
@@ -22,6 +23,7 @@ pub record Public : Type 0 where
   pub machine : Machine
   pub ticks : Ticks
   pub run : Run
+  pub call : Call
   pub sandbox : Sandbox
   pub text : Text
   -- a function that returns nothing and changes nothing has one outcome, even if it promises nothing

@@ -7,19 +7,20 @@ use Rattle.word.specs.Bytes.{words}
 use Rattle.vliw.specs.Machine.{inOrder, step}
 use Rattle.vliw.specs.Run.{run}
 use Rattle.isa.specs.Program.{isStart}
+use Rattle.isa.specs.declared.Count.{Count}
 use Rattle.isa.specs.declared.Table.{Table}
 use Rattle.memory.specs.Memory.{store}
 use Rattle.machine.specs.Instruction.{instructionOf}
 use Rattle.machine.specs.State.{registersOf}
 use Rattle.machine.specs.declared.State.{State}
 use Rattle.run.specs.Turn.{Returned}
-use Rattle.run.specs.declared.Ran.{Ran}
+use Rattle.run.specs.declared.Left.{Left}
 use Rattle.outcomes.specs.OneOutcome.{OneOutcome}
 
 pub record Run : Type 0 where
   -- crates/run/src/lib.rt
-  pub run-one : (table : Table) (program memory landing : List ℕ) (n : ℕ) (s : State)
-      → OneOutcome (λ (o : record { result : Ran; memory : List ℕ }).
+  pub run-one : (table : Table) (program memory landing : List ℕ) (n : Count) (s : State)
+      → OneOutcome (λ (o : record { result : Left; memory : List ℕ }).
       (isStart (words program) (o .result .state .place .0) ≡ true)
-      × (Returned (run (step store (instructionOf (table .delays) (words program))) n
+      × (Returned (run (step store (instructionOf (table .delays) (words program))) (n .0)
       (record { place = s .place .0; registers = registersOf s; memory = memory; landing = landing; orders = inOrder })) (o .result) (o .memory)))

@@ -4,7 +4,7 @@ use mathlib.Core.Path.{_≡_}
 use Prim.Native.Nat.{ℕ}
 use Rattle.loader.specs.Answer.{loadOutcome}
 use Rattle.schedule.specs.Answer.{Checks}
-use Rattle.machine.specs.Run.{runOutcome}
+use Rattle.call.specs.Run.{runOutcome}
 use Rattle.outcomes.specs.OneOutcome.{OneOutcome}
 
 pub record Sandbox : Type 0 where

@@ -4,7 +4,8 @@ use mathlib.Core.List.{List}
 use mathlib.Core.Path.{_≡_}
 use Prim.Native.Nat.{ℕ}
 use lib.Dec.{ltb}
-use lib.ListN.{getD}
+use lib.ListN.{getD, set}
+use Rattle.isa.specs.declared.Count.{Count}
 use Rattle.isa.specs.declared.Place.{Place}
 use Rattle.machine.specs.State.{Sized, registersOf}
 use Rattle.machine.specs.declared.State.{State}
@@ -14,7 +15,10 @@ use Rattle.outcomes.specs.OneOutcome.{OneOutcome}
 pub record Ticks : Type 0 where
   -- crates/ticks/src/lib.rt
   pub made-one : (value : List ℕ) (r : ℕ) → OneOutcome (λ (v : ℕ). v ≡ getD value r 0)
-  pub late-one : (ready : List ℕ) (r t : ℕ) → OneOutcome (λ (b : Bool). b ≡ ltb t (getD ready r 0))
-  pub leave-one : (value old ready land : List ℕ) (t : ℕ) (place : Place)
+  pub late-one : (ready : List ℕ) (r : ℕ) (t : Count) → OneOutcome (λ (b : Bool). b ≡ ltb (t .0) (getD ready r 0))
+  pub note-one : (reg val del : List ℕ) (count r v l : ℕ)
+      → OneOutcome (λ (o : record { reg : List ℕ; val : List ℕ; del : List ℕ }).
+      (o .reg ≡ set reg count r) × (o .val ≡ set val count v) × (o .del ≡ set del count l))
+  pub leave-one : (value old ready land : List ℕ) (t : Count) (place : Place)
       → OneOutcome (λ (s : State).
-      (Sized s) × (s .place ≡ place) × (registersOf s ≡ views t value old ready land))
+      (Sized s) × (s .place ≡ place) × (registersOf s ≡ views (t .0) value old ready land))

@@ -1,12 +1,2 @@
-pub mod Theorems
-pub mod Examples
-pub mod ExamplesValues
-pub mod ExamplesRun
+pub mod Ready
 pub mod Calls
-pub mod Endings
-pub mod Numbers
-pub mod Taken
-pub mod Held
-pub mod Demand1
-pub mod Demand3
-pub mod ExamplesClusters

@@ -1,19 +1,17 @@
 // What a host calls: extern "C" entries on numbers and byte slices. Each tests what it takes, and none asks anything of its caller.
 ghost use mathlib.Core.Path.{_≡_};
 ghost use Rattle.loader.specs.Answer.{loadOutcome};
-ghost use Rattle.machine.specs.Run.{runOutcome};
-ghost use Rattle.sandbox.specs.Promise.{Load, Check, Run};
+ghost use Rattle.call.specs.Run.{runOutcome};
 ghost use Rattle.schedule.specs.Answer.{Answers, Checks};
 
-mod call;
-pub mod demands;
+mod runs;
 
-use call::call;
+use call::replies::of_reply;
 use isa::tables::read;
 use loader::Answer;
 use loader::Loaded;
 use loader::answers;
-use machine::replies::of_reply;
+use runs::call;
 use schedule::answers::of_verdict;
 
 // Loads a program under a delay table: the answer in the room, and its number returned.
@@ -74,18 +72,3 @@ pub extern "C" fn vex_run(
     answers::write(room, answer);
     answer.number
 }
-
-// What is proved of load's promise. The function does nothing: its promise is the theorem, so that nobody drops it unseen.
-pub fn load_theorems()
-    ensures { λ _. ⌜ Load ⌝ }
-{}
-
-// The same of check's promise.
-pub fn check_theorems()
-    ensures { λ _. ⌜ Check ⌝ }
-{}
-
-// The same of run's promise.
-pub fn run_theorems()
-    ensures { λ _. ⌜ Run ⌝ }
-{}

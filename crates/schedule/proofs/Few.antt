@@ -16,11 +16,12 @@ use Rattle.word.proofs.Choice.{by-test}
 use Rattle.word.proofs.Lists.{count-le}
 use Rattle.vliw.specs.Schedule.{Reach}
 use Rattle.isa.specs.Program.{following, operationsAt}
-use Rattle.isa.specs.Touch.{Way, along, nowhere, to, fork, wayOf, nextsBy, nexts}
+use Rattle.isa.specs.Touch.{nextsBy, nexts}
+use Rattle.isa.specs.declared.Way.{Way}
+use Rattle.isa.specs.declared.Way.the-variants.{Along, Stop, Goto, Branch}
 use Rattle.isa.specs.declared.Op.{Op}
-use Rattle.schedule.specs.Part.{nextsIn}
-use Rattle.schedule.specs.Near.{placeAt, stepsAt, Ordered}
-use Rattle.schedule.specs.declared.reach.Reached.{Reached}
+use Rattle.schedule.specs.Rule.{nextsAt}
+use Rattle.schedule.specs.Near.{Near, placeAt, stepsAt, Ordered}
 
 -- ---- ascending numbers that stand in a list are no more than the list has
 
@@ -91,7 +92,7 @@ module _ (next : ℕ → List ℕ) (two : (m : ℕ) → length (next m) ≤ 2) (
   upto-few zero = omega arith
   upto-few (suc n) = omega (arith, length-append (ends (suc n)) (upto n), ends-few (suc n), upto-few n, pow-succ' 2 (suc n))
 
-  few : {most : ℕ} (r : Reached) → most ≤ 7 → Ordered r most
+  few : {most : ℕ} (r : Near) → most ≤ 7 → Ordered r most
       → ((i : ℕ) → i < r .count → (1 ≤ stepsAt r i) × Reach next p (stepsAt r i) (placeAt r i)) → r .count ≤ 254
   few {most} r b o sound =
       let h = no-more (placeAt r) (r .count) (upto most) (o .ascending) (λ i l. upto-in most (sound i l .0) (o .low i l) (ends-in (stepsAt r i) (sound i l .1))) in
@@ -100,15 +101,15 @@ module _ (next : ℕ → List ℕ) (two : (m : ℕ) → length (next m) ≤ 2) (
 -- ---- an instruction has at most two nexts
 
 by-way : (w : Way) (f : ℕ) (others : List ℕ) → length others ≤ 2 → length (nextsBy w f others) ≤ 2
-by-way along f others h = h
-by-way nowhere f others h = zero-le
-by-way (to t) f others h = omega arith
-by-way (fork v t) f others h = omega arith
+by-way Along f others h = h
+by-way Stop f others h = zero-le
+by-way (Goto t) f others h = omega arith
+by-way (Branch v t) f others h = omega arith
 
 at-most-two : (f : ℕ) (os : List Op) → length (nexts f os) ≤ 2
 at-most-two f [] = omega arith
-at-most-two f (o ∷ os) = by-way (wayOf o) f (nexts f os) (at-most-two f os)
+at-most-two f (o ∷ os) = by-way (o .way) f (nexts f os) (at-most-two f os)
 
-pub few-in : {most : ℕ} (p : List ℕ) (from : ℕ) (r : Reached) → most ≤ 7 → Ordered r most
-    → ((i : ℕ) → i < r .count → (1 ≤ stepsAt r i) × Reach (nextsIn p) from (stepsAt r i) (placeAt r i)) → r .count ≤ 254
-few-in p from r = few (nextsIn p) (λ i. at-most-two (following p i) (operationsAt p i)) from r
+pub few-in : {most : ℕ} (p : List ℕ) (from : ℕ) (r : Near) → most ≤ 7 → Ordered r most
+    → ((i : ℕ) → i < r .count → (1 ≤ stepsAt r i) × Reach (nextsAt p) from (stepsAt r i) (placeAt r i)) → r .count ≤ 254
+few-in p from r = few (nextsAt p) (λ i. at-most-two (following p i) (operationsAt p i)) from r

@@ -9,14 +9,13 @@ use lib.Dec.{ltb}
 use lib.ListN.{length-append}
 use borrow.Author.Tests.{ltb-true, ltb-false}
 use Rattle.word.proofs.Choice.{by-test}
-use Rattle.schedule.specs.Near.{PutIn, near, placeAt, stepsAt, Ordered, Has, Grown}
-use Rattle.schedule.specs.declared.reach.Reached.{Reached}
+use Rattle.schedule.specs.Near.{PutIn, Near, near, placeAt, stepsAt, Ordered, Has, Joined}
 
 pub low-or-high : (m n : ℕ) → (m < n) ⊎ (n ≤ m)
 low-or-high m n = ⊎-elim (λ e. inl (ltb-true m n e)) (λ e. inr (ltb-false m n e)) (by-test (ltb m n))
 
-pub grown-none : {k : ℕ} (r : Reached) → Ordered r k → Grown [] k r r
-grown-none r o =
+pub joined-none : {k : ℕ} (r : Near) → Ordered r k → Joined [] k r r
+joined-none r o =
     record {
       ordered = o;
       most = omega arith;
@@ -25,8 +24,8 @@ grown-none r o =
       has = λ m. absurd (List·Memᴰ·not-nil m);
     }
 
-pub grown-there : {q k : ℕ} (r : Reached) → Ordered r k → Has r q k → Grown (q ∷ []) k r r
-grown-there r o h =
+pub joined-there : {q k : ℕ} (r : Near) → Ordered r k → Has r q k → Joined (q ∷ []) k r r
+joined-there r o h =
     record {
       ordered = o;
       most = omega arith;
@@ -35,8 +34,8 @@ grown-there r o h =
       has = λ m. (h .0, h .1, h .2 ∙ sym (List·Memᴰ·eq-of-singleton m), h .3);
     }
 
-pub grown-more : {ts us : List ℕ} {k : ℕ} (r s t : Reached) → Grown ts k r s → Grown us k s t → Grown (ts ++ us) k r t
-grown-more {ts} {us} {k} r s t g h =
+pub joined-more : {ts us : List ℕ} {k : ℕ} (r s t : Near) → Joined ts k r s → Joined us k s t → Joined (ts ++ us) k r t
+joined-more {ts} {us} {k} r s t g h =
     record {
       ordered = h .ordered;
       most = omega (arith, g .most, h .most, length-append ts us);
@@ -54,14 +53,14 @@ grown-more {ts} {us} {k} r s t g h =
         (g .each i l)
 
 -- what is below a place is below the later ones
-pub below-later : {k q at : ℕ} (r : Reached) → Ordered r k → q < placeAt r at → (j : ℕ) → at ≤ j → j < r .count → q < placeAt r j
+pub below-later : {k q at : ℕ} (r : Near) → Ordered r k → q < placeAt r at → (j : ℕ) → at ≤ j → j < r .count → q < placeAt r j
 below-later {k} {q} {at} r o l j a b = ⊎-elim (λ (e : at ≡ j). rw (← e) l) (λ c. omega (arith, o .ascending at j c b)) (eq-or-lt-of-le a)
 
 -- q is put in at an index, between lower and higher places
-module _ {k q at : ℕ} (r : Reached) (o : Ordered r k) {P S : List ℕ}
+module _ {k q at : ℕ} (r : Near) (o : Ordered r k) {P S : List ℕ}
     (p : PutIn (r .places) P (r .count) at q) (s : PutIn (r .steps) S (r .count) at k) (within : at ≤ r .count) (room : r .count < 256)
     (low : (j : ℕ) → j < at → placeAt r j < q) (high : (j : ℕ) → at ≤ j → j < r .count → q < placeAt r j) where
-  abbrev more : Reached
+  abbrev more : Near
   more = near P S (r .count + 1)
 
   data Index : ℕ → Type 0 where
@@ -104,8 +103,8 @@ module _ {k q at : ℕ} (r : Reached) (o : Ordered r k) {P S : List ℕ}
       (λ c. (suc i, omega arith, p .above i c l ∙ e, omega (arith, s .above i c l)))
       (low-or-high i at)
 
-  pub grown-put : Grown (q ∷ []) k r more
-  grown-put =
+  pub joined-put : Joined (q ∷ []) k r more
+  joined-put =
       record {
         ordered =
             record {

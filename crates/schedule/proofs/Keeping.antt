@@ -16,20 +16,19 @@ use Rattle.isa.specs.Program.{nowhere, spotAt, operation}
 use Rattle.isa.specs.Touch.{Result, delayOf, resultIn, results, dests}
 use Rattle.isa.specs.declared.Delays.{Delays}
 use Rattle.isa.specs.declared.Op.{Op}
-use Rattle.schedule.specs.Part.{operations}
-use Rattle.schedule.specs.Gather.{resultAt, Holds, made}
-use Rattle.schedule.specs.declared.results.Results.{Results}
-use Rattle.schedule.proofs.Parts.{operations-size, operations-at}
+use Rattle.isa.proofs.Ways.{operations, operations-size, operations-at}
+use Rattle.schedule.specs.Late.{lateAt, LateOf, made}
+use Rattle.schedule.specs.declared.late.Late.{Late}
 
-module _ {es : List Dest} (r : Results) (h : Holds es r) (register delay : ℕ) where
+module _ {es : List Dest} {registers delays : List ℕ} {late : Late} (h : LateOf es registers delays late) (register delay : ℕ) where
   -- it is none, or takes one instruction
-  pub passed-over : (register ≡ 0) ⊎ (delay ≤ 1) → Holds (es ++ made register delay) r
+  pub passed-over : (register ≡ 0) ⊎ (delay ≤ 1) → LateOf (es ++ made register delay) registers delays late
   passed-over n =
       record {
-        registers = h .registers;
-        delays = h .delays;
+        size = h .size;
         few = h .few;
         some = h .some;
+        below = h .below;
         sound = λ i b. Memᴰ·append-left _ (h .sound i b);
         complete = λ m l. ⊎-elim (λ old. h .complete old l) (λ new. absurd (never n (eqb register 0) refl new l)) (List·Memᴰ·append-cases es m);
         most = h .most;
@@ -41,39 +40,40 @@ module _ {es : List Dest} (r : Results) (h : Holds es r) (register delay : ℕ) 
       never n true q m l = List·Memᴰ·not-nil m
       never n false q m l = ⊎-elim (eqb-false register 0 q) (λ s. omega (arith, ap (λ (d : Dest). d .delay) (List·Memᴰ·eq-of-singleton m))) n
 
-  module _ (some : register ≡ 0 → ⊥) (room : r .count < 64) (longest : ℕ) where
-    abbrev more : Results
-    more =
-        record {
-          registers = set (r .registers) (r .count) register;
-          delays = set (r .delays) (r .count) delay;
-          count = r .count + 1;
-          longest = longest;
-        }
+  module _ (some : register ≡ 0 → ⊥) (within : register < 288) (room : late .count < 64) (longest : ℕ) where
+    abbrev n : ℕ
+    n = late .count
 
-    same : (i : ℕ) → i < r .count → resultAt more i ≡ resultAt r i
+    abbrev result : ℕ → Dest
+    result = lateAt (set registers n register) (set delays n delay)
+
+    same : (i : ℕ) → i < n → result i ≡ lateAt registers delays i
     same i b =
-        let n : i ≡ r .count → ⊥ = λ e. omega arith in
-        rw (getD-set-other (r .registers) (r .count) i register 0 n, getD-set-other (r .delays) (r .count) i delay 0 n)
+        let o : i ≡ n → ⊥ = λ e. omega arith in
+        rw (getD-set-other registers n i register 0 o, getD-set-other delays n i delay 0 o)
 
-    here : resultAt more (r .count) ≡ record { reg = register; delay = delay }
-    here =
-        rw (getD-set-same (r .registers) (r .count) register 0 (omega (arith, h .registers)), getD-set-same (r .delays) (r .count) delay 0 (omega (arith, h .delays)))
+    here : result n ≡ record { reg = register; delay = delay }
+    here = rw (getD-set-same registers n register 0 (omega (arith, h .size)), getD-set-same delays n delay 0 (omega (arith, h .size)))
 
-    each : (i : ℕ) → i < r .count + 1 → ((i < r .count) × (resultAt more i ≡ resultAt r i)) ⊎ (resultAt more i ≡ record { reg = register; delay = delay })
-    each i l = ⊎-elim (λ (e : i ≡ r .count). inr (rw e here)) (λ b. inl (b, same i b)) (eq-or-lt-of-le (omega arith))
+    each : (i : ℕ) → i < n + 1 → ((i < n) × (result i ≡ lateAt registers delays i)) ⊎ (result i ≡ record { reg = register; delay = delay })
+    each i l = ⊎-elim (λ (e : i ≡ n). inr (rw e here)) (λ b. inl (b, same i b)) (eq-or-lt-of-le (omega arith))
 
-    pub kept : delay ≤ longest → r .longest ≤ longest → longest ≤ 8 → Holds (es ++ made register delay) more
+    pub kept : delay ≤ longest → late .longest ≤ longest → longest ≤ 8
+        → LateOf (es ++ made register delay) (set registers n register) (set delays n delay) (record { count = n + 1; longest = longest })
     kept a b c =
         rw (ne-eqb register 0 some)
         (record {
-          registers = simp length-set (h .registers);
-          delays = simp length-set (h .delays);
+          size = simp length-set (h .size);
           few = omega arith;
           some = λ i l z.
               ⊎-elim
               (λ old. h .some i (old .0) (sym (ap (λ (d : Dest). d .reg) (old .1)) ∙ z))
               (λ new. some (sym (ap (λ (d : Dest). d .reg) new) ∙ z))
+              (each i l);
+          below = λ i l.
+              ⊎-elim
+              (λ old. omega (arith, ap (λ (d : Dest). d .reg) (old .1), h .below i (old .0)))
+              (λ new. omega (arith, ap (λ (d : Dest). d .reg) new))
               (each i l);
           sound = λ i l.
               ⊎-elim
@@ -83,7 +83,7 @@ module _ {es : List Dest} (r : Results) (h : Holds es r) (register delay : ℕ) 
           complete = λ m l.
               ⊎-elim
               (λ old. let (i, b, e) = h .complete old l in (i, omega arith, same i b ∙ e))
-              (λ new. (r .count, omega arith, here ∙ sym (List·Memᴰ·eq-of-singleton new)))
+              (λ new. (n, omega arith, here ∙ sym (List·Memᴰ·eq-of-singleton new)))
               (List·Memᴰ·append-cases es m);
           most = λ i l.
               ⊎-elim
@@ -107,10 +107,10 @@ module _ (d : Delays) where
       by false = refl
 
   abbrev madeBy : Op → List Dest
-  madeBy o = made (o .t1) (delayOf d (o .opcode) (o .t1)) ++ made (o .t2) (delayOf d (o .opcode) (o .t2))
+  madeBy o = made (o .t) (delayOf d (o .opcode) (o .t)) ++ made (o .carry) (delayOf d (o .opcode) (o .carry))
 
   dests-cons : (o : Op) (os : List Op) → dests d (o ∷ os) ≡ madeBy o ++ dests d os
-  dests-cons o os = rw (dests-in (o .t1) (o .opcode) _, dests-in (o .t2) (o .opcode) (results os), append-assoc)
+  dests-cons o os = rw (dests-in (o .t) (o .opcode) _, dests-in (o .carry) (o .opcode) (results os), append-assoc)
 
   dests-append : (os more : List Op) → dests d (os ++ more) ≡ dests d os ++ dests d more
   dests-append [] more = refl
@@ -118,7 +118,7 @@ module _ (d : Delays) where
 
   pub dests-more : (w : List ℕ) (i : ℕ) → i < length w → {o : Op} → o ≡ operation (spotAt w i)
       → dests d (take (suc i) (operations w))
-      ≡ (dests d (take i (operations w)) ++ made (o .t1) (delayOf d (o .opcode) (o .t1))) ++ made (o .t2) (delayOf d (o .opcode) (o .t2))
+      ≡ (dests d (take i (operations w)) ++ made (o .t) (delayOf d (o .opcode) (o .t))) ++ made (o .carry) (delayOf d (o .opcode) (o .carry))
   dests-more w i h {o} e =
       let os = operations w in
       let at : getD os i (operation nowhere) ≡ o = operations-at w i ∙ sym e in

@@ -1,9 +1,9 @@
-pub mod Parts
+pub mod Laid
 pub mod Keeping
 pub mod Naming
-pub mod Going
+pub mod Stamps
 pub mod Growing
 pub mod Reaching
 pub mod Few
-pub mod Clashes
+pub mod Soon
 pub mod Once

@@ -11,16 +11,17 @@ use Rattle.word.proofs.Choice.{or-right}
 use Rattle.word.proofs.Lists.{any-append}
 use Rattle.isa.specs.Touch.{Result, reads, resultIn, results, destinations}
 use Rattle.isa.specs.declared.Op.{Op}
-use Rattle.schedule.specs.Gather.{names}
+use Rattle.schedule.specs.Stamps.{names}
 
 -- what is read stands before what is written
-sorted : (a b c A d e B : Bool) → ((a || b || c || d || e) || (A || B)) ≡ ((a || (b || (c || A))) || (d || (e || B)))
-sorted true b c A d e B = refl
-sorted false true c A d e B = refl
-sorted false false true A d e B = refl
-sorted false false false A true e B = sym (or-right A refl)
-sorted false false false A false true B = sym (or-right A refl)
-sorted false false false A false false B = refl
+sorted : (a b c d A t u B : Bool) → ((a || b || c || d || t || u) || (A || B)) ≡ ((a || (b || (c || (d || A)))) || (t || (u || B)))
+sorted true b c d A t u B = refl
+sorted false true c d A t u B = refl
+sorted false false true d A t u B = refl
+sorted false false false true A t u B = refl
+sorted false false false false A true u B = sym (or-right A refl)
+sorted false false false false A false true B = sym (or-right A refl)
+sorted false false false false A false false B = refl
 
 module _ (r : ℕ) (some : r ≡ 0 → ⊥) where
   written : (t o : ℕ) (more : List Result)
@@ -35,8 +36,8 @@ module _ (r : ℕ) (some : r ≡ 0 → ⊥) where
   named : (os : List Op) → any (names r) os ≡ member r (reads os) || member r (destinations os)
   named [] = refl
   named (o ∷ os) =
-      rw (named os, written (o .t1) (o .opcode) _, written (o .t2) (o .opcode) (results os))
-      (sorted (eqb r (o .s1)) (eqb r (o .s2)) (eqb r (o .s3)) (member r (reads os)) (eqb r (o .t1)) (eqb r (o .t2)) (member r (destinations os)))
+      rw (named os, written (o .t) (o .opcode) _, written (o .carry) (o .opcode) (results os))
+      (sorted (eqb r (o .s1)) (eqb r (o .s2)) (eqb r (o .b)) (eqb r (o .stored)) (member r (reads os)) (eqb r (o .t)) (eqb r (o .carry)) (member r (destinations os)))
 
   pub touched : (os : List Op) → any (names r) os ≡ member r (reads os ++ destinations os)
   touched os = named os ∙ sym (any-append (eqb r) (reads os) (destinations os))

@@ -8,17 +8,17 @@ use native.Mathlib.Nat.{le-refl, not-suc-le-zero, eq-or-lt-of-le, le-of-suc-le-s
 use native.Mathlib.Omega.{arith}
 use Rattle.vliw.specs.Schedule.{Reach}
 use Rattle.isa.specs.Program.{isStart}
-use Rattle.schedule.specs.Part.{nextsIn, Laid}
-use Rattle.schedule.specs.Near.{placeAt, stepsAt, Ordered, Has, Grown, Reaches}
-use Rattle.schedule.specs.declared.reach.Reached.{Reached}
+use Rattle.schedule.specs.Rule.{nextsAt}
+use Rattle.schedule.specs.Laid.{Laid}
+use Rattle.schedule.specs.Near.{Near, placeAt, stepsAt, Ordered, Has, Joined, Reaches}
 
 -- what the old and the new places have, all have
-all-of : {ts : List ℕ} {k : ℕ} (r s : Reached) → Grown ts k r s → (P : ℕ → ℕ → Type 0)
+all-of : {ts : List ℕ} {k : ℕ} (r s : Near) → Joined ts k r s → (P : ℕ → ℕ → Type 0)
     → ((i : ℕ) → i < r .count → P (stepsAt r i) (placeAt r i)) → ((t : ℕ) → List·Memᴰ t ts → P k t)
     → (j : ℕ) → j < s .count → P (stepsAt s j) (placeAt s j)
 all-of r s g P old new j l = ⊎-elim (λ n. rw (n .1) (new _ (n .0))) (λ o. rw (← o .3, ← o .4) (old (o .0) (o .2))) (g .each j l)
 
-pub reach-start : {p : List ℕ} → Laid p → (i : ℕ) → isStart p i ≡ true → (k q : ℕ) → Reach (nextsIn p) i k q → isStart p q ≡ true
+pub reach-start : {p : List ℕ} → Laid p → (i : ℕ) → isStart p i ≡ true → (k q : ℕ) → Reach (nextsAt p) i k q → isStart p q ≡ true
 reach-start ok i s zero q e = rw (← e) s
 reach-start ok i s (suc k) q (m, h, t) = ok .onward m (reach-start ok i s k m h) t
 
@@ -26,7 +26,7 @@ module _ (nexts : ℕ → List ℕ) (p : ℕ) where
   abbrev Sound : ℕ → ℕ → Type 0
   Sound n q = (1 ≤ n) × Reach nexts p n q
 
-  pub first : {r s : Reached} → r .count ≡ 0 → Grown (nexts p) 1 r s → Reaches nexts p 1 s
+  pub first : {r s : Near} → r .count ≡ 0 → Joined (nexts p) 1 r s → Reaches nexts p 1 s
   first {r} {s} e g =
       record {
         ordered = g .ordered;
@@ -40,13 +40,13 @@ module _ (nexts : ℕ → List ℕ) (p : ℕ) where
       by (suc (suc k)) q a b h = absurd (not-suc-le-zero (le-of-suc-le-suc b))
 
   -- of the places k nexts away, those below an index have had their nexts put in
-  pub record Widening (k i : ℕ) (r : Reached) : Type 0 where
+  pub record Widening (k i : ℕ) (r : Near) : Type 0 where
     pub ordered : Ordered r (suc k)
     pub sound : (j : ℕ) → j < r .count → Sound (stepsAt r j) (placeAt r j)
     pub complete : (n q : ℕ) → 1 ≤ n → n ≤ k → Reach nexts p n q → Has r q n
     pub done : (j : ℕ) → j < i → j < r .count → stepsAt r j ≡ k → {t : ℕ} → List·Memᴰ t (nexts (placeAt r j)) → Has r t (suc k)
 
-  pub begin : {k : ℕ} (r : Reached) → Reaches nexts p k r → Widening k 0 r
+  pub begin : {k : ℕ} (r : Near) → Reaches nexts p k r → Widening k 0 r
   begin r h =
       record {
         ordered =
@@ -62,7 +62,7 @@ module _ (nexts : ℕ → List ℕ) (p : ℕ) where
         done = λ j l. absurd (not-suc-le-zero l);
       }
 
-  pub passed-by : {k i : ℕ} (r : Reached) → Widening k i r → (stepsAt r i ≡ k → ⊥) → Widening k (suc i) r
+  pub passed-by : {k i : ℕ} (r : Near) → Widening k i r → (stepsAt r i ≡ k → ⊥) → Widening k (suc i) r
   passed-by {k} {i} r h n =
       record {
         ordered = h .ordered;
@@ -71,7 +71,7 @@ module _ (nexts : ℕ → List ℕ) (p : ℕ) where
         done = λ j l b e. ⊎-elim (λ (q : j ≡ i). absurd (n (rw (← q) e))) (λ c. h .done j c b e) (eq-or-lt-of-le (le-of-suc-le-suc l));
       }
 
-  pub widened : {k i : ℕ} (r s : Reached) → Widening k i r → i < r .count → stepsAt r i ≡ k → Grown (nexts (placeAt r i)) (suc k) r s → Widening k (suc i) s
+  pub widened : {k i : ℕ} (r s : Near) → Widening k i r → i < r .count → stepsAt r i ≡ k → Joined (nexts (placeAt r i)) (suc k) r s → Widening k (suc i) s
   widened {k} {i} r s h l e g =
       record {
         ordered = g .ordered;
@@ -87,7 +87,7 @@ module _ (nexts : ℕ → List ℕ) (p : ℕ) where
             (g .each j b);
       }
 
-  pub ended : {k i : ℕ} (r : Reached) → 1 ≤ k → Widening k i r → r .count ≤ i → Reaches nexts p (suc k) r
+  pub ended : {k i : ℕ} (r : Near) → 1 ≤ k → Widening k i r → r .count ≤ i → Reaches nexts p (suc k) r
   ended {k} {i} r a h b =
       record {
         ordered = h .ordered;

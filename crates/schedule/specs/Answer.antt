@@ -6,16 +6,16 @@ use Rattle.word.specs.Bytes.{words}
 use Rattle.isa.specs.Table.{tableOf}
 use Rattle.loader.specs.Load.{loadedOf}
 use Rattle.loader.specs.declared.Answer.{Answer}
-use Rattle.loader.specs.Answer.{answer, refusalAnswer, Outcome, answered}
+use Rattle.loader.specs.Answer.{answer, refusalAnswer, RoomOutcome, answered}
 use Rattle.loader.specs.declared.Loaded.{Loaded}
 use Rattle.loader.specs.declared.Loaded.the-variants.{Good, Refused}
 use Rattle.schedule.specs.Rule.{Says}
 use Rattle.schedule.specs.declared.Verdict.{Verdict}
-use Rattle.schedule.specs.declared.Verdict.the-variants.{Clean, Clash}
+use Rattle.schedule.specs.declared.Verdict.the-variants as verdict
 
 abbrev pub verdictAnswer : Verdict → Answer
-verdictAnswer Clean = answer 0 0 0
-verdictAnswer (Clash p q) = answer 9 (p .0) (q .0)
+verdictAnswer verdict.Good = answer 0 0 0
+verdictAnswer (verdict.TooSoon p q) = answer 9 (p .0) (q .0)
 
 -- the answer: a refusal's, or that of the verdict that the paths give
 abbrev pub AnswersBy : Loaded → List ℕ → List ℕ → Answer → Type 0
@@ -26,5 +26,5 @@ abbrev pub Answers : List ℕ → List ℕ → List ℕ → Answer → Type 0
 Answers table program room a = AnswersBy (loadedOf table program room) table program a
 
 -- all that a call of check leaves
-abbrev pub Checks : List ℕ → List ℕ → List ℕ → Outcome → Type 0
+abbrev pub Checks : List ℕ → List ℕ → List ℕ → RoomOutcome → Type 0
 Checks table program room o = (a : Answer) × Answers table program room a × (o ≡ answered a room)

@@ -1,5 +1,6 @@
-pub mod Part
-pub mod Gather
-pub mod Near
 pub mod Rule
+pub mod Laid
+pub mod Late
+pub mod Stamps
+pub mod Near
 pub mod Answer

@@ -1,18 +1,10 @@
 -- Private to the search, nobody has to believe it: what a producer reaches as the search keeps it, in two arrays: places in ascending order, each with a number of nexts that leads there.
 use mathlib.Core.Path.{_≡_}
 use mathlib.Core.Logic.{_⊎_}
-use mathlib.Core.List.{List, [], _∷_, List·Memᴰ}
+use mathlib.Core.List.{List, List·Memᴰ}
 use Prim.Native.Nat.{ℕ, suc, _+_, _≤_, _<_}
 use lib.ListN.{length, getD}
 use Rattle.vliw.specs.Schedule.{Reach}
-use Rattle.schedule.specs.declared.reach.Nexts.{Nexts}
-use Rattle.schedule.specs.declared.reach.Nexts.the-variants.{Nothing, One, Two}
-use Rattle.schedule.specs.declared.reach.Reached.{Reached}
-
-abbrev pub listed : Nexts → List ℕ
-listed Nothing = []
-listed (One t) = t .0 ∷ []
-listed (Two t u) = t .0 ∷ u .0 ∷ []
 
 -- b is a with x put in at an index, of those before an end
 pub record PutIn (a b : List ℕ) (end at x : ℕ) : Type 0 where
@@ -21,10 +13,15 @@ pub record PutIn (a b : List ℕ) (end at x : ℕ) : Type 0 where
   pub here : getD b at 0 ≡ x
   pub above : (j : ℕ) → at ≤ j → j < end → getD b (suc j) 0 ≡ getD a j 0
 
-abbrev pub near : List ℕ → List ℕ → ℕ → Reached
+pub record Near : Type 0 where
+  pub places : List ℕ
+  pub steps : List ℕ
+  pub count : ℕ
+
+abbrev pub near : List ℕ → List ℕ → ℕ → Near
 near places steps count = record { places = places; steps = steps; count = count }
 
-module _ (r : Reached) where
+module _ (r : Near) where
   abbrev pub placeAt : ℕ → ℕ
   placeAt i = getD (r .places) i 0
 
@@ -44,7 +41,7 @@ module _ (r : Reached) where
   Has q k = (i : ℕ) × (i < r .count) × (placeAt i ≡ q) × (stepsAt i ≤ k)
 
 -- s is r with the places ts put in, k nexts away; none goes to a lower index
-pub record Grown (ts : List ℕ) (k : ℕ) (r s : Reached) : Type 0 where
+pub record Joined (ts : List ℕ) (k : ℕ) (r s : Near) : Type 0 where
   pub ordered : Ordered s k
   pub most : s .count ≤ r .count + length ts
   pub each : (j : ℕ) → j < s .count
@@ -53,7 +50,7 @@ pub record Grown (ts : List ℕ) (k : ℕ) (r s : Reached) : Type 0 where
   pub has : {t : ℕ} → List·Memᴰ t ts → Has s t k
 
 -- what p reaches by 1 .. most nexts
-pub record Reaches (nexts : ℕ → List ℕ) (p most : ℕ) (r : Reached) : Type 0 where
+pub record Reaches (nexts : ℕ → List ℕ) (p most : ℕ) (r : Near) : Type 0 where
   pub ordered : Ordered r most
   pub sound : (i : ℕ) → i < r .count → (1 ≤ stepsAt r i) × Reach nexts p (stepsAt r i) (placeAt r i)
   pub complete : (k q : ℕ) → 1 ≤ k → k ≤ most → Reach nexts p k q → Has r q k

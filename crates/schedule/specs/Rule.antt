@@ -2,19 +2,19 @@
 use mathlib.Core.List.{List, _++_, map}
 use Prim.Native.Nat.{ℕ, _≤_}
 use Rattle.vliw.specs.Machine.{Dest}
-use Rattle.vliw.specs.Schedule.{TooSoon}
+use Rattle.vliw.specs.Schedule.{TouchesTooSoon}
 use Rattle.isa.specs.Program.{isStart, operationsAt, following}
 use Rattle.isa.specs.Touch.{reads, dests, nexts}
 use Rattle.isa.specs.declared.Delays.{Delays}
 use Rattle.schedule.specs.declared.Verdict.{Verdict}
-use Rattle.schedule.specs.declared.Verdict.the-variants.{Clean, Clash}
+use Rattle.schedule.specs.declared.Verdict.the-variants.{Good, TooSoon}
+
+abbrev pub nextsAt : List ℕ → ℕ → List ℕ
+nextsAt program i = nexts (following program i) (operationsAt program i)
 
 module _ (d : Delays) (program : List ℕ) where
   abbrev pub destsAt : ℕ → List Dest
   destsAt i = dests d (operationsAt program i)
-
-  abbrev pub nextsAt : ℕ → List ℕ
-  nextsAt i = nexts (following program i) (operationsAt program i)
 
   -- reads and destinations
   abbrev pub usesAt : ℕ → List ℕ
@@ -22,10 +22,10 @@ module _ (d : Delays) (program : List ℕ) where
 
   -- q touches a result of p too soon
   abbrev pub TooSoonAt : ℕ → ℕ → Type 0
-  TooSoonAt = TooSoon (isStart program) destsAt nextsAt usesAt
+  TooSoonAt = TouchesTooSoon (isStart program) destsAt (nextsAt program) usesAt
 
   -- "The answer names the lowest such p and, for it, the lowest such q"
   abbrev pub Says : Verdict → Type 0
-  Says Clean = (p q : ℕ) → TooSoonAt p q → ⊥
-  Says (Clash p q) =
+  Says Good = (p q : ℕ) → TooSoonAt p q → ⊥
+  Says (TooSoon p q) =
       TooSoonAt (p .0) (q .0) × ((i j : ℕ) → TooSoonAt i j → p .0 ≤ i) × ((j : ℕ) → TooSoonAt (p .0) j → q .0 ≤ j)

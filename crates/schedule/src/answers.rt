@@ -8,12 +8,12 @@ pub fn of_verdict(v: Verdict) -> Answer
     ensures { λ a. ⌜ a ≡ verdictAnswer v ⌝ }
 {
     match v {
-        Verdict::Clean => Answer {
+        Verdict::Good => Answer {
             number: 0,
             count: 0,
             place: 0,
         },
-        Verdict::Clash(p, q) => Answer {
+        Verdict::TooSoon(p, q) => Answer {
             number: 9,
             count: p.0 as u64,
             place: q.0 as u64,

@@ -1,54 +1,60 @@
 // The schedule check: a schedule is refused exactly if some path touches a result too soon.
 ghost use Rattle.word.specs.Bytes.{words};
-ghost use Rattle.isa.specs.Limits.{Limits};
+ghost use Rattle.isa.specs.Bounds.{Bounds};
 ghost use Rattle.loader.specs.Passed.{Passed};
 ghost use Rattle.schedule.specs.Rule.{Says};
 use isa::Place;
 use isa::Table;
 use isa::program::following;
+use isa::stretch::cut;
+use late::late_results;
 use reach::reach;
-use results::gather;
-use stretch::stretch;
+use touches::stamp_touched;
 use touches::touches;
 
 pub mod answers;
+mod late;
 mod reach;
-mod results;
-mod stretch;
 mod touches;
 
 // The lowest producer and, for it, the lowest consumer.
 pub enum Verdict {
-    Clean,
-    Clash(Place, Place),
+    Good,
+    TooSoon(Place, Place),
 }
 
 // The verdict on a program that loads: the search ends at the first pair found.
 pub fn check(table: Table, program: &[u8]) -> Verdict
-    requires { ⌜ Limits table ⌝ }
+    requires { ⌜ Bounds table ⌝ }
     requires { ⌜ Passed table (words (now program)) ⌝ }
     ensures { λ r. ⌜ Says (table .delays) (words (now (program .entry))) r ⌝ }
 {
-    let delays = table.delays;
     let n = program.len() / 4;
-    let mut found = Verdict::Clean;
-    let mut p = 0;
-    'producers: while p < n {
-        let late = gather(delays, stretch(program, Place(p)));
+    // Lent to each producer in turn, and never cleared: a count says how far they hold.
+    let mut registers = [0; 64];
+    let mut delays = [0; 64];
+    let mut places = [0; 256];
+    let mut steps = [0; 256];
+    let mut stamps = [0; 288];
+    let mut found = Verdict::Good;
+    let mut p = Place(0);
+    'producers: while p.0 < n {
+        let late = late_results(table.delays, cut(program, p), &mut registers, &mut delays);
         if 1 < late.longest {
-            let near = reach(program, Place(p), late.longest - 1);
-            'consumers: for i in 0..near.count {
-                let q = near.places[i];
-                let k = near.steps[i];
+            let reached = reach(program, p, late.longest - 1, &mut places, &mut steps);
+            'consumers: for i in 0..reached {
+                let q = Place(places[i]);
+                let k = steps[i];
+                stamp_touched(cut(program, q), q, &mut stamps);
                 'registers: for j in 0..late.count {
-                    if k < late.delays[j] && touches(program, Place(q), late.registers[j]) {
-                        found = Verdict::Clash(Place(p), Place(q));
+                    if k < delays[j] && touches(&stamps, q, registers[j]) {
+                        found = Verdict::TooSoon(p, q);
                         break 'producers;
                     }
                 }
             }
         }
-        p = following(program, Place(p)).0;
+        p = following(program, p);
     }
     found
 }

@@ -1,50 +1,53 @@
-// Whether an instruction reads or writes a register.
+// Which registers an instruction reads or writes: it leaves its stamp on them, one more than its place.
 ghost use mathlib.Core.Path.{_≡_};
-ghost use mathlib.Core.Bool.{true};
-ghost use mathlib.Core.List.{_++_};
+ghost use mathlib.Core.List.{map};
+ghost use Prim.Native.Nat.{suc, _^_, _<_};
+ghost use lib.Dec.{eqb};
+ghost use lib.ListN.{length, getD};
 ghost use Rattle.word.specs.Bytes.{words};
-ghost use Rattle.word.specs.Lists.{any, member};
-ghost use Rattle.isa.specs.Program.{isStart, operationsAt};
-ghost use Rattle.isa.specs.Touch.{reads, destinations};
-ghost use Rattle.schedule.specs.Part.{Laid, Decodable, operations};
-ghost use Rattle.schedule.specs.Gather.{names};
-use crate::stretch::decoded_at;
-use crate::stretch::stretch;
+ghost use Rattle.word.specs.Lists.{any};
+ghost use Rattle.isa.specs.Program.{spots, operation};
+ghost use Rattle.schedule.specs.Laid.{Decodable};
+ghost use Rattle.schedule.specs.Stamps.{names, Registers, Stamped};
 use isa::Op;
 use isa::Place;
+use isa::Slot;
+use isa::stretch::before_all;
+use isa::stretch::next_spot;
+use isa::stretch::operation;
+use isa::stretch::syllable;
 
-fn names(o: Op, register: u32) -> bool
-    ensures { λ r. ⌜ r ≡ names register o ⌝ }
+fn stamp(o: Op, n: usize, stamps: &mut [usize; 288])
+    requires { ⌜ Registers o ⌝ }
+    requires { ⌜ length (now stamps) ≡ 288 ⌝ }
+    ensures { λ _. ⌜ Stamped (λ r. names r o) n (now (stamps .entry)) (now (stamps .exit)) ⌝ }
 {
-    (register == o.s1)
-        | (register == o.s2)
-        | (register == o.s3)
-        | (register == o.t1)
-        | (register == o.t2)
+    stamps[o.s1 as usize] = n;
+    stamps[o.s2 as usize] = n;
+    stamps[o.b as usize] = n;
+    stamps[o.stored as usize] = n;
+    stamps[o.t as usize] = n;
+    stamps[o.carry as usize] = n;
 }
 
-// Of the syllables of an instruction.
-fn any_names(stretch: &[u8], register: u32) -> bool
+// The stamps of the instruction at a place.
+pub fn stamp_touched(stretch: &[u8], at: Place, stamps: &mut [usize; 288])
     requires { ⌜ Decodable (words (now stretch)) ⌝ }
-    ensures { λ r. ⌜ r ≡ any (names register) (operations (words (now (stretch .entry)))) ⌝ }
+    requires { ⌜ (at .0 < 2 ^ 63) × (length (now stamps) ≡ 288) ⌝ }
+    ensures { λ _. ⌜ Stamped (λ r. any (names r) (map operation (spots (words (now (stretch .entry)))))) (suc (at .0)) (now (stamps .entry)) (now (stamps .exit)) ⌝ }
 {
-    let mut found = false;
-    let mut opened = 0;
+    let n = at.0 + 1;
+    let mut x = before_all();
     for i in 0..stretch.len() / 4 {
-        let s = decoded_at(stretch, i, opened);
-        found = found | names(s.op, register);
-        opened = s.opened;
+        x = next_spot(x, syllable(stretch, Slot(i)));
+        stamp(operation(x), n, stamps);
     }
-    found
 }
 
-// Of the instruction at a place; register 0 stands for none.
-pub fn touches(program: &[u8], at: Place, register: u32) -> bool
-    requires { ⌜ Laid (words (now program)) ⌝ }
-    requires { ⌜ isStart (words (now program)) (at .0) ≡ true ⌝ }
-    requires { ⌜ (register ≡ 0 → ⊥) ⌝ }
-    ensures { λ r. ⌜ r ≡ member register (reads (operationsAt (words (now (program .entry))) (at .0))
-        ++ destinations (operationsAt (words (now (program .entry))) (at .0))) ⌝ }
+// Whether the instruction at a place has left its stamp on a register.
+pub fn touches(stamps: &[usize; 288], at: Place, register: u32) -> bool
+    requires { ⌜ (at .0 < 2 ^ 63) × (register < 288) ⌝ }
+    ensures { λ r. ⌜ r ≡ eqb (getD (now (stamps .entry)) register 0) (suc (at .0)) ⌝ }
 {
-    any_names(stretch(program, at), register)
+    stamps[register as usize] == at.0 + 1
 }

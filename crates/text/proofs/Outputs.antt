@@ -8,7 +8,7 @@ use lib.ListN.{length, take, drop, replicate, length-append, length-replicate}
 use lib.Seq.{sets, sets-eq, length-sets}
 use borrow.Author.Tests.{lt-ltb, le-ltb}
 use Rattle.word.proofs.Bytes.{sets-append}
-use Rattle.machine.specs.Run.{Call, Outcome, runOutcome}
+use Rattle.call.specs.Run.{Call, Outcome, runOutcome}
 use Rattle.text.specs.Rows.{fields}
 use Rattle.text.specs.Lines.{newline, pieces, firstLine, Read, Good, fromFirst, readText}
 use Rattle.text.specs.Items.{saidIn, held, Kept}

@@ -11,7 +11,7 @@ use lib.Seq.{drop-drop, sets-eq, take-at, length-take-le}
 use borrow.Author.Tests.{eqb-true, eqb-false}
 use Rattle.word.specs.Choice.{pick}
 use Rattle.word.specs.Bytes.{bytes, putWord}
-use Rattle.word.specs.declared.Found.the-variants.{At, Nothing}
+use Rattle.text.specs.declared.reading.Upto.the-variants.{At, Nothing}
 use Rattle.isa.specs.Syllable.{ends}
 use Rattle.text.specs.Digits.{numberOf}
 use Rattle.text.specs.Lines.{newline, blank, cut, pieces, every, isNumber, areItems, itemsOf, Line, Broken, Holds, firstLine, endsOnce, wordBytes, Program, BadLine, Code, _before_, programFrom}

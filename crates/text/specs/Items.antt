@@ -6,8 +6,8 @@ use lib.Dec.{eqb, ltb}
 use lib.ListN.{length, getD, take, drop}
 use Rattle.word.specs.Choice.{pick}
 use Rattle.word.specs.Bytes.{putWord}
-use Rattle.word.specs.declared.Found.{Found}
-use Rattle.word.specs.declared.Found.the-variants.{At, Nothing}
+use Rattle.text.specs.declared.reading.Upto.{Upto}
+use Rattle.text.specs.declared.reading.Upto.the-variants.{At, Nothing}
 use Rattle.isa.specs.Syllable.{ends}
 use Rattle.text.specs.Digits.{isDigit, numberFrom, numberOf}
 use Rattle.text.specs.Lines as lines
@@ -51,17 +51,17 @@ putItem n (Inner w) program = putWord (n * 4) w program
 putItem n (Last w) program = putWord (n * 4) w program
 
 -- the line after a syllable of line i, if the syllable is good
-abbrev pub lineAfter : ℕ → Item → Found
+abbrev pub lineAfter : ℕ → Item → Upto
 lineAfter i Bad = Nothing
 lineAfter i (Inner w) = At i
 lineAfter i (Last w) = At (i + 1)
 
 -- what the code's answers say, with the arrays that they count in
-abbrev pub lineHeld : Found → List ℕ → List ℕ → Line
+abbrev pub lineHeld : Upto → List ℕ → List ℕ → Line
 lineHeld Nothing table text = Broken
 lineHeld (At n) table text = Holds (take n table) (pieces newline (drop (n * 3) text))
 
-abbrev pub Within : Found → List ℕ → Type 0
+abbrev pub Within : Upto → List ℕ → Type 0
 Within Nothing text = Unit {0}
 Within (At n) text = n * 3 ≤ length text
 

@@ -3,4 +3,3 @@ pub mod Lines
 pub mod Items
 pub mod Rows
 pub mod Output
-pub mod Promise

@@ -8,14 +8,14 @@ use lib.ListN.{length, replicate}
 use lib.Seq.{sets}
 use Rattle.word.specs.Choice.{pick}
 use Rattle.word.specs.Bytes.{wordAt}
-use Rattle.loader.specs.Broken.{programBreaks}
+use Rattle.loader.specs.Broken.{badProgramLength}
 use Rattle.loader.specs.Load.{_otherwise_, refusedIf, loadedWith}
 use Rattle.loader.specs.Answer.{answer, loadAnswer}
 use Rattle.loader.specs.declared.Answer.{Answer}
 use Rattle.loader.specs.declared.Loaded.{Loaded}
 use Rattle.loader.specs.declared.Loaded.the-variants.{Refused}
-use Rattle.loader.specs.declared.Refusal.the-variants.{Program, Memory}
-use Rattle.machine.specs.Run.{Call, Outcome, runOutcome}
+use Rattle.loader.specs.declared.Refusal.the-variants.{ProgramLength, MemoryLength}
+use Rattle.call.specs.Run.{Call, Outcome, runOutcome}
 use Rattle.text.specs.Lines.{Said, Read, Bad, Good, readText}
 use Rattle.text.specs.Rows.{answerRow, registerRows}
 use Rattle.text.specs.declared.Shown.{Shown}
@@ -53,7 +53,7 @@ callOf s =
 
 -- "Memory length, here at most 16,384 (else 2, place 1)": after 1 and "No fourth line is 2, place 0", before all else
 abbrev pub tooMuch : List ℕ → List ℕ → Loaded
-tooMuch table program = loadedWith (refusedIf (programBreaks program) Program otherwise Refused Memory) table program
+tooMuch table program = loadedWith (refusedIf (badProgramLength program) ProgramLength otherwise Refused MemoryLength) table program
 
 abbrev pub endingOf : Read → Ending
 endingOf (Bad line) = Unread line

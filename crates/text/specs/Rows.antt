@@ -1,10 +1,11 @@
 -- Lines of the output: "Line 1: number (two digits), count, place. Then, by cluster and register, each non-zero register once everything has
 -- landed: cluster, register (40 to 47 hex for branch), value."
 use mathlib.Core.List.{List, [], _∷_, _++_}
-use Prim.Native.Nat.{ℕ, zero, suc, _+_, _*_, _-_}
+use Prim.Native.Nat.{ℕ, zero, suc, _-_}
 use lib.Dec.{eqb, ltb}
 use Rattle.word.specs.Choice.{pick}
 use Rattle.vliw.specs.Cell.{landed}
+use Rattle.isa.specs.Register.{generalAt, branch}
 use Rattle.machine.specs.Image.{cellIn}
 use Rattle.loader.specs.declared.Answer.{Answer}
 use Rattle.text.specs.Digits.{hex}
@@ -23,7 +24,7 @@ answerRow a = fields (a .number) 8 (a .count) (a .place)
 
 -- where register r of cluster c stands among all: 0 to 3F are general, 40 to 47 branch registers
 abbrev pub indexOf : ℕ → ℕ → ℕ
-indexOf c r = pick (ltb r 64) (c * 64 + r) (256 + c * 8 + (r - 64))
+indexOf c r = pick (ltb r 64) (generalAt c r) (branch c (r - 64))
 
 abbrev pub registerRow : ℕ → ℕ → ℕ → List ℕ
 registerRow c r v = pick (eqb v 0) [] (fields c 2 r v)

@@ -9,7 +9,6 @@ ghost use mathlib.Core.Path.{_≡_};
 ghost use Prim.Native.Nat.{_≤_};
 ghost use lib.ListN.{length};
 ghost use Rattle.text.specs.Output.{shownOf};
-ghost use Rattle.text.specs.Promise.{Show};
 use running::print;
 
 // The output, and how many of the bytes it is.
@@ -26,8 +25,3 @@ pub fn show(input: &[u8]) -> Shown
     let length = print(input, &mut bytes);
     Shown { bytes, length }
 }
-
-// What is proved of this promise. The function does nothing: its promise is the theorem, so that nobody drops it unseen.
-pub fn show_theorems()
-    ensures { λ _. ⌜ Show ⌝ }
-{}

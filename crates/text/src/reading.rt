@@ -8,7 +8,6 @@ ghost use Rattle.text.specs.Items.{syllableAt, putItem, lineAfter, lineH
 use crate::items::Item;
 use crate::items::item_at;
 use crate::items::syllable_at;
-use word::Found;
 use word::number::put_word;
 
 // How much of a table and of a program was read: bytes, and syllables.
@@ -17,6 +16,12 @@ pub struct Sizes {
     pub memory: u32,
     pub n: u32,
     pub program: usize,
+}
+
+// How far reading came: so many bytes or lines, or nothing where an item is bad.
+pub enum Upto {
+    At(usize),
+    Nothing,
 }
 
 // What reading finds: the lowest line that is bad or missing, or a text.
@@ -31,7 +36,7 @@ pub enum Syllables {
 }
 
 // Line 1, its bytes put into `table`: how many there are.
-fn first_line(text: &[u8], table: &mut [u8]) -> Found
+fn first_line(text: &[u8], table: &mut [u8]) -> Upto
     requires { ⌜ (length (now text) ≤ 32768) × (length (now table) ≡ 10923) ⌝ }
     ensures { λ r. ⌜ lineHeld r (now (table .exit)) (now (text .entry)) ≡ firstLine 2 (pieces newline (now (text .entry))) ⌝ }
     ensures { λ r. ⌜ Within r (now (text .entry)) ⌝ }
@@ -40,7 +45,7 @@ fn first_line(text: &[u8], table: &mut [u8]) -> Found
     while n * 3 < text.len() {
         match item_at(text, n * 3, 2) {
             Item::Bad => {
-                return Found::Nothing;
+                return Upto::Nothing;
             }
             Item::Inner(b) => {
                 table[n] = b as u8;
@@ -48,28 +53,28 @@ fn first_line(text: &[u8], table: &mut [u8]) -> Found
             }
             Item::Last(b) => {
                 table[n] = b as u8;
-                return Found::At(n + 1);
+                return Upto::At(n + 1);
             }
         }
     }
-    Found::Nothing
+    Upto::Nothing
 }
 
 // The syllable at `at`, of line `line`, put into `program` as its n-th: the line after it.
-fn put_syllable(text: &[u8], at: usize, program: &mut [u8], n: usize, line: usize) -> Found
+fn put_syllable(text: &[u8], at: usize, program: &mut [u8], n: usize, line: usize) -> Upto
     requires { ⌜ (at ≤ length (now text)) × (n * 4 + 4 ≤ length (now program)) × (line ≤ 32768) ⌝ }
     ensures { λ r. ⌜ (r ≡ lineAfter line (syllableAt (drop at (now (text .entry)))))
         × (now (program .exit) ≡ putItem n (syllableAt (drop at (now (text .entry)))) (now (program .entry))) ⌝ }
 {
     match syllable_at(text, at) {
-        Item::Bad => Found::Nothing,
+        Item::Bad => Upto::Nothing,
         Item::Inner(w) => {
             put_word(program, n * 4, w);
-            Found::At(line)
+            Upto::At(line)
         }
         Item::Last(w) => {
             put_word(program, n * 4, w);
-            Found::At(line + 1)
+            Upto::At(line + 1)
         }
     }
 }
@@ -84,10 +89,10 @@ fn instructions(text: &[u8], from: usize, program: &mut [u8]) -> Syllables
     let mut n = 0;
     while from + n * 9 < text.len() {
         match put_syllable(text, from + n * 9, program, n, line) {
-            Found::Nothing => {
+            Upto::Nothing => {
                 return Syllables::Unread(line);
             }
-            Found::At(next) => {
+            Upto::At(next) => {
                 line = next;
                 n += 1;
             }
@@ -147,7 +152,7 @@ pub fn read(text: &[u8], table: &mut [u8], program: &mut [u8]) -> Reading
     ensures { λ r. ⌜ Kept r ⌝ }
 {
     match first_line(text, table) {
-        Found::Nothing => Reading::Line(1),
-        Found::At(n) => from_second(text, n, program),
+        Upto::Nothing => Reading::Line(1),
+        Upto::At(n) => from_second(text, n, program),
     }
 }

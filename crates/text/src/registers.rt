@@ -7,6 +7,7 @@ ghost use Rattle.vliw.specs.Cell.{landed};
 ghost use Rattle.machine.specs.Image.{cellIn};
 ghost use Rattle.text.specs.Rows.{indexOf, registerRow, clusterRows, registerRows};
 use crate::rows::put_fields;
+use machine::image::offset;
 use word::number::word_at;
 
 // The value of register `r` of all 288 once everything has landed.
@@ -14,7 +15,7 @@ fn landed_at(image: &[u8], r: usize) -> u32
     requires { ⌜ (length (now image) ≡ 2884) × (r < 288) ⌝ }
     ensures { λ v. ⌜ v ≡ landed (cellIn (now (image .entry)) r) ⌝ }
 {
-    let at = 4 + 10 * r;
+    let at = offset(r);
     if image[at + 9] == 0 {
         word_at(image, at)
     } else {
@@ -30,7 +31,7 @@ fn index(c: usize, r: usize) -> usize
     if r < 64 {
         c * 64 + r
     } else {
-        256 + c * 8 + (r - 64)
+        256 + (c * 8 + (r - 64))
     }
 }
 

@@ -3,11 +3,11 @@ ghost use mathlib.Core.Path.{_≡_};
 ghost use mathlib.Core.List.{[]};
 ghost use Prim.Native.Nat.{_≤_};
 ghost use lib.ListN.{length};
-ghost use Rattle.loader.specs.Broken.{programBreaks};
+ghost use Rattle.loader.specs.Broken.{badProgramLength};
 ghost use Rattle.loader.specs.Load.{_otherwise_, refusedIf};
 ghost use Rattle.loader.specs.declared.Loaded.the-variants.{Refused};
-ghost use Rattle.loader.specs.declared.Refusal.the-variants.{Program, Memory};
-ghost use Rattle.machine.specs.Run.{runOutcome};
+ghost use Rattle.loader.specs.declared.Refusal.the-variants.{ProgramLength, MemoryLength};
+ghost use Rattle.call.specs.Run.{runOutcome};
 ghost use Rattle.text.specs.Items.{Kept, saidIn};
 ghost use Rattle.text.specs.Lines.{Good};
 ghost use Rattle.text.specs.Output.{Unread, Loads, Runs, callOf, tooMuch, endingOf, printedOf, printed, Put};
@@ -21,8 +21,8 @@ use loader::Answer;
 use loader::Loaded;
 use loader::Refusal;
 use loader::answers::of_load;
+use loader::bad_program_length;
 use loader::load_with;
-use loader::program_breaks;
 use sandbox::vex_run;
 use word::number::word_at;
 
@@ -42,12 +42,12 @@ fn unread(out: &mut [u8], line: usize) -> usize
 
 // 2, for a memory that is too long: the program's size comes first.
 fn sizes(program: &[u8]) -> Loaded
-    ensures { λ r. ⌜ r ≡ refusedIf (programBreaks (now (program .entry))) Program otherwise Refused Memory ⌝ }
+    ensures { λ r. ⌜ r ≡ refusedIf (badProgramLength (now (program .entry))) ProgramLength otherwise Refused MemoryLength ⌝ }
 {
-    if program_breaks(program) {
-        return Loaded::Refused(Refusal::Program);
+    if bad_program_length(program) {
+        return Loaded::Refused(Refusal::ProgramLength);
     }
-    Loaded::Refused(Refusal::Memory)
+    Loaded::Refused(Refusal::MemoryLength)
 }
 
 // A memory that is too long, refused.

@@ -17,7 +17,7 @@ use Rattle.word.proofs.Lists.{anyBelow-false}
 use Rattle.vliw.specs.Cell.{Cell, Registers, still, at, landedOf}
 use Rattle.machine.specs.declared.State.{State}
 use Rattle.machine.specs.State.{cells, registersOf, Sized}
-use Rattle.machine.specs.Valid.{isZeroRegister, allZero, cellBreaks}
+use Rattle.machine.specs.Valid.{isZeroRegister, allZero, badRegister}
 use Rattle.ticks.specs.Ticks.{zipped, Sizes, viewOf, views, valueAt, waitingAt, Bank, Fit}
 use Rattle.ticks.proofs.Views.{zipped-length, zipped-at, zipped-set, views-length, view-at, view-busy, view-landing}
 
@@ -110,7 +110,7 @@ module _ {s : State} (z : Sized s) where
 
 -- ---- validity
 
-fit-of : (r : ℕ) (c : Cell) → cellBreaks r c ≡ false → Fit c
+fit-of : (r : ℕ) (c : Cell) → badRegister r c ≡ false → Fit c
 fit-of r c h =
     let filled = isZeroRegister r && not (allZero c) in
     let under = ltb (c .busy) (c .landing) in
@@ -124,8 +124,8 @@ fit-of r c h =
       settled = λ e. eqb-true (c .waiting) 0 (not-false _ (rw (eq-eqb (c .landing) 0 e) at (three .1)));
     }
 
-pub fits-of : (l : Registers) → anyBelow (λ r. cellBreaks r (at l r)) 288 ≡ false → (r : ℕ) → r < 288 → Fit (at l r)
-fits-of l h r b = fit-of r (at l r) (anyBelow-false (λ q. cellBreaks q (at l q)) 288 h r b)
+pub fits-of : (l : Registers) → anyBelow (λ r. badRegister r (at l r)) 288 ≡ false → (r : ℕ) → r < 288 → Fit (at l r)
+fits-of l h r b = fit-of r (at l r) (anyBelow-false (λ q. badRegister q (at l q)) 288 h r b)
 
 -- ---- from the state to the loop's arrays
 

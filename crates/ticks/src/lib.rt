@@ -1,11 +1,12 @@
 // The registers in the run's loop: ticks in place of counts, so that nothing is stored when time passes.
+use isa::Count;
 use isa::Place;
 use machine::State;
 ghost use mathlib.Core.Path.{_≡_};
 ghost use mathlib.Core.List.{_++_, _∷_, []};
 ghost use Prim.Native.Nat.{ℕ, _+_, _-_, _≤_, _<_};
 ghost use lib.Dec.{ltb};
-ghost use lib.ListN.{getD, set, drop};
+ghost use lib.ListN.{length, getD, set, drop};
 ghost use lib.Seq.{sets, slice};
 ghost use Rattle.vliw.specs.Cell.{at, landedOf, put, puts, choose};
 ghost use Rattle.vliw.specs.Machine.{writes};
@@ -21,20 +22,20 @@ pub fn made(value: &[u32; 288], r: u32) -> u32
 }
 
 // The value of register r, landed or not.
-fn read(value: &[u32; 288], old: &[u32; 288], land: &[u64; 288], r: u32, t: u64) -> u32
+fn read(value: &[u32; 288], old: &[u32; 288], land: &[u64; 288], r: u32, t: Count) -> u32
     requires { ⌜ r < 288 ⌝ }
-    ensures { λ v. ⌜ v ≡ valueAt t (now (value .entry)) (now (old .entry)) (now (land .entry)) r ⌝ }
+    ensures { λ v. ⌜ v ≡ valueAt (t .0) (now (value .entry)) (now (old .entry)) (now (land .entry)) r ⌝ }
 {
     let i = r as usize;
-    if t < land[i] { old[i] } else { value[i] }
+    if t.0 < land[i] { old[i] } else { value[i] }
 }
 
 // Whether register r is busy.
-pub fn late(ready: &[u64; 288], r: u32, t: u64) -> bool
+pub fn late(ready: &[u64; 288], r: u32, t: Count) -> bool
     requires { ⌜ r < 288 ⌝ }
-    ensures { λ b. ⌜ b ≡ ltb t (getD (now (ready .entry)) r 0) ⌝ }
+    ensures { λ b. ⌜ b ≡ ltb (t .0) (getD (now (ready .entry)) r 0) ⌝ }
 {
-    t < ready[r as usize]
+    t.0 < ready[r as usize]
 }
 
 // A result v for register r, busy for b more ticks, that lands after l of them.
@@ -47,20 +48,20 @@ fn put_one(
     v: u32,
     b: u64,
     l: u64,
-    t: u64,
+    t: Count,
 )
-    requires { ⌜ Bank t (now value) (now old) (now ready) (now land) ⌝ }
-    requires { ⌜ (r < 288) × (l ≤ b) × (b ≤ 7) × (t ≤ 4294967296) ⌝ }
-    ensures bank { λ _. ⌜ Bank t (now (value .exit)) (now (old .exit)) (now (ready .exit)) (now (land .exit)) ⌝ }
-    ensures is { λ _. ⌜ views t (now (value .exit)) (now (old .exit)) (now (ready .exit)) (now (land .exit))
+    requires { ⌜ Bank (t .0) (now value) (now old) (now ready) (now land) ⌝ }
+    requires { ⌜ (r < 288) × (l ≤ b) × (b ≤ 7) × (t .0 ≤ 4294967296) ⌝ }
+    ensures bank { λ _. ⌜ Bank (t .0) (now (value .exit)) (now (old .exit)) (now (ready .exit)) (now (land .exit)) ⌝ }
+    ensures is { λ _. ⌜ views (t .0) (now (value .exit)) (now (old .exit)) (now (ready .exit)) (now (land .exit))
         ≡ put (record { reg = r; result = v; busy = b; landing = l })
-        (views t (now (value .entry)) (now (old .entry)) (now (ready .entry)) (now (land .entry))) ⌝ }
+        (views (t .0) (now (value .entry)) (now (old .entry)) (now (ready .entry)) (now (land .entry))) ⌝ }
 {
     let i = r as usize;
     old[i] = read(value, old, land, r, t);
     value[i] = v;
-    ready[i] = t + b;
-    land[i] = t + l;
+    ready[i] = t.0 + b;
+    land[i] = t.0 + l;
 }
 
 // A call, since a cast of an element would ask for its bound besides its index.
@@ -93,14 +94,14 @@ fn commit_one(
     l: u64,
     landing: &[u8],
     i: usize,
-    t: u64,
+    t: Count,
 )
-    requires { ⌜ Bank t (now value) (now old) (now ready) (now land) ⌝ }
-    requires { ⌜ (r < 288) × (0 < l) × (l ≤ 8) × (t ≤ 4294967296) ⌝ }
-    ensures bank { λ _. ⌜ Bank t (now (value .exit)) (now (old .exit)) (now (ready .exit)) (now (land .exit)) ⌝ }
-    ensures is { λ _. ⌜ views t (now (value .exit)) (now (old .exit)) (now (ready .exit)) (now (land .exit))
+    requires { ⌜ Bank (t .0) (now value) (now old) (now ready) (now land) ⌝ }
+    requires { ⌜ (r < 288) × (0 < l) × (l ≤ 8) × (t .0 ≤ 4294967296) ⌝ }
+    ensures bank { λ _. ⌜ Bank (t .0) (now (value .exit)) (now (old .exit)) (now (ready .exit)) (now (land .exit)) ⌝ }
+    ensures is { λ _. ⌜ views (t .0) (now (value .exit)) (now (old .exit)) (now (ready .exit)) (now (land .exit))
         ≡ put (record { reg = r; result = v; busy = l - 1; landing = choose l (drop i (now (landing .entry))) })
-        (views t (now (value .entry)) (now (old .entry)) (now (ready .entry)) (now (land .entry))) ⌝ }
+        (views (t .0) (now (value .entry)) (now (old .entry)) (now (ready .entry)) (now (land .entry))) ⌝ }
 {
     let d = chosen(landing, i, l);
     put_one(value, old, ready, land, r, v, l - 1, d, t);
@@ -118,15 +119,15 @@ pub fn commit(
     count: usize,
     landing: &[u8],
     used: usize,
-    t: u64,
+    t: Count,
 )
-    requires { ⌜ Bank t (now value) (now old) (now ready) (now land) ⌝ }
+    requires { ⌜ Bank (t .0) (now value) (now old) (now ready) (now land) ⌝ }
     requires { ⌜ Results (now reg) (now val) (now del) count ⌝ }
-    requires { ⌜ (t ≤ 4294967296) × (used + count < 18446744073709551616) ⌝ }
-    ensures bank { λ _. ⌜ Bank t (now (value .exit)) (now (old .exit)) (now (ready .exit)) (now (land .exit)) ⌝ }
-    ensures is { λ _. ⌜ views t (now (value .exit)) (now (old .exit)) (now (ready .exit)) (now (land .exit))
+    requires { ⌜ (t .0 ≤ 4294967296) × (used + count < 18446744073709551616) ⌝ }
+    ensures bank { λ _. ⌜ Bank (t .0) (now (value .exit)) (now (old .exit)) (now (ready .exit)) (now (land .exit)) ⌝ }
+    ensures is { λ _. ⌜ views (t .0) (now (value .exit)) (now (old .exit)) (now (ready .exit)) (now (land .exit))
         ≡ puts (writes (destsIn (now (reg .entry)) (now (del .entry)) count) (valuesIn (now (val .entry)) count) (drop used (now (landing .entry))))
-        (views t (now (value .entry)) (now (old .entry)) (now (ready .entry)) (now (land .entry))) ⌝ }
+        (views (t .0) (now (value .entry)) (now (old .entry)) (now (ready .entry)) (now (land .entry))) ⌝ }
 {
     for k in 0..count {
         commit_one(
@@ -154,12 +155,10 @@ pub fn note(
     v: u32,
     l: u64,
 )
-    requires { ⌜ Results (now reg) (now val) (now del) count ⌝ }
-    requires { ⌜ (count < 64) × (r < 288) × (0 < l) × (l ≤ 8) ⌝ }
-    ensures results { λ _. ⌜ Results (now (reg .exit)) (now (val .exit)) (now (del .exit)) (count + 1) ⌝ }
-    ensures dests { λ _. ⌜ destsIn (now (reg .exit)) (now (del .exit)) (count + 1)
-        ≡ destsIn (now (reg .entry)) (now (del .entry)) count ++ (record { reg = r; delay = l } ∷ []) ⌝ }
-    ensures values { λ _. ⌜ valuesIn (now (val .exit)) (count + 1) ≡ valuesIn (now (val .entry)) count ++ (v ∷ []) ⌝ }
+    requires { ⌜ (length (now reg) ≡ 64) × (length (now val) ≡ 64) × (length (now del) ≡ 64) × (count < 64) ⌝ }
+    ensures reg { λ _. ⌜ now (reg .exit) ≡ set (now (reg .entry)) count r ⌝ }
+    ensures val { λ _. ⌜ now (val .exit) ≡ set (now (val .entry)) count v ⌝ }
+    ensures del { λ _. ⌜ now (del .exit) ≡ set (now (del .entry)) count l ⌝ }
 {
     reg[count] = r;
     val[count] = v;
@@ -269,20 +268,20 @@ pub fn enter(
 }
 
 // The waiting value of register r.
-fn waiting(value: &[u32; 288], land: &[u64; 288], r: u32, t: u64) -> u32
+fn waiting(value: &[u32; 288], land: &[u64; 288], r: u32, t: Count) -> u32
     requires { ⌜ r < 288 ⌝ }
-    ensures { λ w. ⌜ w ≡ waitingAt t (now (value .entry)) (now (land .entry)) r ⌝ }
+    ensures { λ w. ⌜ w ≡ waitingAt (t .0) (now (value .entry)) (now (land .entry)) r ⌝ }
 {
     let i = r as usize;
-    if t < land[i] { value[i] } else { 0 }
+    if t.0 < land[i] { value[i] } else { 0 }
 }
 
 // How many ticks are left at tick t until tick `until`.
-fn left(until: u64, t: u64) -> u8
-    requires { ⌜ until ≤ t + 7 ⌝ }
-    ensures { λ r. ⌜ r ≡ until - t ⌝ }
+fn left(until: u64, t: Count) -> u8
+    requires { ⌜ until ≤ t .0 + 7 ⌝ }
+    ensures { λ r. ⌜ r ≡ until - t .0 ⌝ }
 {
-    if t < until { (until - t) as u8 } else { 0 }
+    if t.0 < until { (until - t.0) as u8 } else { 0 }
 }
 
 // Register r of the loop, to element k of four arrays of the state, of n elements.
@@ -291,7 +290,7 @@ fn leave_one(
     old: &[u32; 288],
     ready: &[u64; 288],
     land: &[u64; 288],
-    t: u64,
+    t: Count,
     r: u32,
     n: usize,
     v: &mut [u32],
@@ -300,13 +299,13 @@ fn leave_one(
     l: &mut [u8],
     k: usize,
 )
-    requires { ⌜ Bank t (now value) (now old) (now ready) (now land) ⌝ }
+    requires { ⌜ Bank (t .0) (now value) (now old) (now ready) (now land) ⌝ }
     requires { ⌜ Sizes n (now v) (now w) (now b) (now l) ⌝ }
     requires { ⌜ (r < 288) × (k < n) ⌝ }
     ensures sizes { λ _. ⌜ Sizes n (now (v .exit)) (now (w .exit)) (now (b .exit)) (now (l .exit)) ⌝ }
     ensures is { λ _. ⌜ cells (now (v .exit)) (now (w .exit)) (now (b .exit)) (now (l .exit))
         ≡ set (cells (now (v .entry)) (now (w .entry)) (now (b .entry)) (now (l .entry)))
-        k (at (views t (now (value .entry)) (now (old .entry)) (now (ready .entry)) (now (land .entry))) r) ⌝ }
+        k (at (views (t .0) (now (value .entry)) (now (old .entry)) (now (ready .entry)) (now (land .entry))) r) ⌝ }
 {
     let i = r as usize;
     v[k] = read(value, old, land, r, t);
@@ -321,7 +320,7 @@ fn leave_bank(
     old: &[u32; 288],
     ready: &[u64; 288],
     land: &[u64; 288],
-    t: u64,
+    t: Count,
     base: usize,
     n: usize,
     v: &mut [u32],
@@ -329,12 +328,12 @@ fn leave_bank(
     b: &mut [u8],
     l: &mut [u8],
 )
-    requires { ⌜ Bank t (now value) (now old) (now ready) (now land) ⌝ }
+    requires { ⌜ Bank (t .0) (now value) (now old) (now ready) (now land) ⌝ }
     requires { ⌜ Sizes n (now v) (now w) (now b) (now l) ⌝ }
     requires { ⌜ base + n ≤ 288 ⌝ }
     ensures sizes { λ _. ⌜ Sizes n (now (v .exit)) (now (w .exit)) (now (b .exit)) (now (l .exit)) ⌝ }
     ensures is { λ _. ⌜ cells (now (v .exit)) (now (w .exit)) (now (b .exit)) (now (l .exit))
-        ≡ slice base (base + n) (views t (now (value .entry)) (now (old .entry)) (now (ready .entry)) (now (land .entry))) ⌝ }
+        ≡ slice base (base + n) (views (t .0) (now (value .entry)) (now (old .entry)) (now (ready .entry)) (now (land .entry))) ⌝ }
 {
     for k in 0..n {
         leave_one(
@@ -360,13 +359,13 @@ pub fn leave(
     old: &[u32; 288],
     ready: &[u64; 288],
     land: &[u64; 288],
-    t: u64,
+    t: Count,
     place: Place,
 ) -> State
-    requires { ⌜ Bank t (now value) (now old) (now ready) (now land) ⌝ }
+    requires { ⌜ Bank (t .0) (now value) (now old) (now ready) (now land) ⌝ }
     ensures sized { λ s. ⌜ Sized s ⌝ }
     ensures at { λ s. ⌜ s .place ≡ place ⌝ }
-    ensures is { λ s. ⌜ registersOf s ≡ views t (now (value .entry)) (now (old .entry)) (now (ready .entry)) (now (land .entry)) ⌝ }
+    ensures is { λ s. ⌜ registersOf s ≡ views (t .0) (now (value .entry)) (now (old .entry)) (now (ready .entry)) (now (land .entry)) ⌝ }
 {
     let mut v = [0u32; 256];
     let mut w = [0u32; 256];

@@ -9,16 +9,19 @@ use native.Mathlib.Omega.{arith}
 use lib.Dec.{ltb}
 use lib.ListN.{List·getD-map}
 use Rattle.word.proofs.Lists.{any-none-in}
+use Rattle.vliw.specs.declared.Ending.the-variants.{Faulted}
+use Rattle.vliw.specs.declared.Fault.the-variants.{InFlight}
+use Rattle.vliw.specs.Run.{numberOf}
 use Rattle.vliw.specs.Cell.{Cell, Registers, Write, still, at, aged, agedOf, written, writtenOf, put, puts, choose}
-use Rattle.vliw.specs.Machine.{Dest, Out, fault, stop, go, Instruction, uses, writes, AnyOrder, State, finish, step}
+use Rattle.vliw.specs.Machine.{Dest, Out, fault, stop, go, Instruction, uses, writes, AnyOrder, Situation, finish, step}
 use Rattle.vliw.specs.Schedule.{Reach}
-use Rattle.vliw.specs.Demand3.{Loaded, Scheduled}
+use Rattle.vliw.specs.Demand3.{WellFormed, Scheduled}
 use Rattle.vliw.proofs.Lists.{set-each, perm-mem}
 use Rattle.vliw.proofs.Runs.{Keeps}
 use Rattle.vliw.proofs.Order.{each-write}
 
 -- what the instruction at the state's place does
-abbrev pub acted : {Memory Store : Type 0} → (ℕ → Instruction Memory Store) → State Memory Store → Out Store
+abbrev pub acted : {Memory Store : Type 0} → (ℕ → Instruction Memory Store) → Situation Memory Store → Out Store
 acted program s = program (s .place) .acts (map (λ (c : Cell). c .value) (s .registers)) (s .memory)
 
 choose-low : (L : ℕ) (bs : List ℕ) → 1 ≤ L → choose L bs ≤ L - 1
@@ -33,7 +36,7 @@ puts-each P (w ∷ ws) l gives h r =
     let c = at l (w .reg) in
     puts-each P ws (put w l) (λ u m. gives u (List·Memᴰ·tail m)) (set-each P l (w .reg) (written w c) still (gives w (List·Memᴰ·head refl) c) h) r
 
-module _ {Memory Store : Type 0} (store : Store → Memory → Memory) (program : ℕ → Instruction Memory Store) (starts : ℕ → Bool) where
+module _ {Memory Store : Type 0} (program : ℕ → Instruction Memory Store) (starts : ℕ → Bool) where
   -- the producer of what is in flight in register r where i is next: k nexts back, and busy and k make up its delay
   pub record Flying (i r busy : ℕ) : Type 0 where
     maker : ℕ
@@ -50,7 +53,7 @@ module _ {Memory Store : Type 0} (store : Store → Memory → Memory) (program 
     pub low : c .landing ≤ c .busy
     pub flying : 0 < c .busy → Flying i r (c .busy)
 
-  pub record Fine (s : State Memory Store) : Type 0 where
+  pub record Fine (s : Situation Memory Store) : Type 0 where
     pub place : starts (s .place) ≡ true
     pub cells : (r : ℕ) → Sound (s .place) r (at (s .registers) r)
     pub orders : AnyOrder (s .orders)
@@ -97,52 +100,53 @@ module _ {Memory Store : Type 0} (store : Store → Memory → Memory) (program 
       written-sound old v zero h = record { low = omega arith; flying = fresh }
       written-sound old v (suc l) h = record { low = h; flying = fresh }
 
-  module _ (loaded : Loaded store program starts) (scheduled : Scheduled program starts) (s : State Memory Store) (fine : Fine s) where
-    -- what the instruction reads or writes is not in flight
-    pub quiet : (r : ℕ) → List·Memᴰ r (uses (program (s .place))) → at (s .registers) r .busy ≡ 0
-    quiet r m = omega (arith, caught)
-      where
-        caught : 0 < at (s .registers) r .busy → ⊥
-        caught h =
-            let f : Flying (s .place) r (at (s .registers) r .busy) = fine .cells r .flying h in
-            scheduled (f .maker) (s .place)
-            record {
-              producer = f .starting;
-              result = f .result;
-              of = f .of;
-              k = f .k;
-              after = f .after;
-              before = omega arith;
-              path = f .path;
-              touched = rw (f .reg) at m;
-            }
+module _ {Memory Store : Type 0} {store : Store → Memory → Memory} {program : ℕ → Instruction Memory Store} {starts : ℕ → Bool}
+    (loaded : WellFormed store program starts) (scheduled : Scheduled program starts) (s : Situation Memory Store) (fine : Fine program starts s) where
+  -- what the instruction reads or writes is not in flight
+  pub quiet : (r : ℕ) → List·Memᴰ r (uses (program (s .place))) → at (s .registers) r .busy ≡ 0
+  quiet r m = omega (arith, caught)
+    where
+      caught : 0 < at (s .registers) r .busy → ⊥
+      caught h =
+          let f : Flying program starts (s .place) r (at (s .registers) r .busy) = fine .cells r .flying h in
+          scheduled (f .maker) (s .place)
+          record {
+            producer = f .starting;
+            result = f .result;
+            of = f .of;
+            k = f .k;
+            after = f .after;
+            before = omega arith;
+            path = f .path;
+            touched = rw (f .reg) at m;
+          }
 
-    -- so it acts
-    pub unhindered : step store program s ≡ finish store (program (s .place)) s (acted program s)
-    unhindered = rw (any-none-in (λ r. ltb 0 (at (s .registers) r .busy)) (uses (program (s .place))) (λ r m. rw (quiet r m)))
+  -- so it acts
+  pub unhindered : step store program s ≡ finish store (program (s .place)) s (acted program s)
+  unhindered = rw (any-none-in (λ r. ltb 0 (at (s .registers) r .busy)) (uses (program (s .place))) (λ r m. rw (quiet r m)))
 
-    kept : (o : Out Store) → acted program s ≡ o → Keeps Fine (λ k t. k ≢ 11) (finish store (program (s .place)) s o)
-    kept (fault k) e = λ h. loaded .faults (s .place) _ (s .memory) (fine .place) (e ∙ ap fault h)
-    kept stop e = omega arith
-    kept (go vs ss j) e =
-        record {
-          place = loaded .onward (s .place) j (fine .place) on;
-          cells =
-              puts-each (Sound j) (s .orders .results 0 ws) (map aged (s .registers)) (λ w m. new w (perm-mem (fine .orders .results 0 ws) m))
-              (λ r. rw (List·getD-map aged (s .registers) r still) (aged-sound on r _ _ _ _ (fine .cells r)));
-          orders = record { results = λ k. fine .orders .results (suc k); stores = λ k. fine .orders .stores (suc k) };
-        }
-      where
-        ws : List Write
-        ws = writes (program (s .place) .dests) vs (s .landing)
+  kept : (o : Out Store) → acted program s ≡ o → Keeps (Fine program starts) (λ e t. e ≢ Faulted InFlight) (finish store (program (s .place)) s o)
+  kept (fault f) e = λ h. loaded .faults (s .place) _ (s .memory) (fine .place) (e ∙ ap fault (cc h))
+  kept stop e = λ h. omega (arith, ap numberOf h)
+  kept (go vs ss j) e =
+      record {
+        place = loaded .onward (s .place) j (fine .place) on;
+        cells =
+            puts-each (Sound program starts j) (s .orders .results 0 ws) (map aged (s .registers)) (λ w m. new w (perm-mem (fine .orders .results 0 ws) m))
+            (λ r. rw (List·getD-map aged (s .registers) r still) (aged-sound program starts on r _ _ _ _ (fine .cells r)));
+        orders = record { results = λ k. fine .orders .results (suc k); stores = λ k. fine .orders .stores (suc k) };
+      }
+    where
+      ws : List Write
+      ws = writes (program (s .place) .dests) vs (s .landing)
 
-        on : List·Memᴰ j (program (s .place) .nexts)
-        on = loaded .goes (s .place) _ (s .memory) vs ss j (fine .place) e
+      on : List·Memᴰ j (program (s .place) .nexts)
+      on = loaded .goes (s .place) _ (s .memory) vs ss j (fine .place) e
 
-        new : (w : Write) → List·Memᴰ w ws → (c : Cell) → Sound j (w .reg) (written w c)
-        new w =
-            each-write (λ u. (c : Cell) → Sound j (u .reg) (written u c)) (program (s .place) .dests) vs (s .landing)
-            (λ d v bs of c. written-sound on (fine .place) of _ _ _ (choose-low (d .delay) bs (loaded .delays (s .place) d (fine .place) of)))
+      new : (w : Write) → List·Memᴰ w ws → (c : Cell) → Sound program starts j (w .reg) (written w c)
+      new w =
+          each-write (λ u. (c : Cell) → Sound program starts j (u .reg) (written u c)) (program (s .place) .dests) vs (s .landing)
+          (λ d v bs of c. written-sound program starts on (fine .place) of _ _ _ (choose-low (d .delay) bs (loaded .delays (s .place) d (fine .place) of)))
 
-    pub keeps : Keeps Fine (λ k t. k ≢ 11) (step store program s)
-    keeps = rw unhindered (kept (acted program s) refl)
+  pub keeps : Keeps (Fine program starts) (λ e t. e ≢ Faulted InFlight) (step store program s)
+  keeps = rw unhindered (kept (acted program s) refl)

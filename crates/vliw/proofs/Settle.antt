@@ -7,9 +7,9 @@ use native.Mathlib.Omega.{arith}
 use lib.ListN.{getD, List·getD-map}
 use Rattle.vliw.specs.Run.{viewStep}
 use Rattle.vliw.specs.Cell.{Cell, Registers, still, at, landed, landedOf, rested, aged, agedOf, writtenOf, puts, others}
-use Rattle.vliw.specs.Machine.{Dest, Out, fault, stop, go, Instruction, writes, State, finish, step}
+use Rattle.vliw.specs.Machine.{Dest, Out, fault, stop, go, Instruction, writes, Situation, finish, step}
 use Rattle.vliw.specs.Plain.{assign, finishPlain, stepPlain}
-use Rattle.vliw.specs.Demand3.{Loaded, Scheduled, settled}
+use Rattle.vliw.specs.Demand3.{WellFormed, Scheduled, settled}
 use Rattle.vliw.proofs.Lists.{map-set, map-unseen}
 use Rattle.vliw.proofs.Order.{stores-order, results-order}
 use Rattle.vliw.proofs.Flight.{acted, Fine, quiet, unhindered}
@@ -28,11 +28,11 @@ landed-puts [] vs bs l = refl
 landed-puts (d ∷ ds) [] bs l = refl
 landed-puts (d ∷ ds) (v ∷ vs) bs l = rw (landed-puts ds vs (others bs), map-set landed, landed-written)
 
-module _ {Memory Store : Type 0} (store : Store → Memory → Memory) (program : ℕ → Instruction Memory Store) (starts : ℕ → Bool)
-    (loaded : Loaded store program starts) (scheduled : Scheduled program starts) (s : State Memory Store) (fine : Fine store program starts s) where
+module _ {Memory Store : Type 0} {store : Store → Memory → Memory} {program : ℕ → Instruction Memory Store} {starts : ℕ → Bool}
+    (loaded : WellFormed store program starts) (scheduled : Scheduled program starts) (s : Situation Memory Store) (fine : Fine program starts s) where
   settled-out : (o : Out Store) → acted program s ≡ o
       → viewStep settled (finish store (program (s .place)) s o) ≡ finishPlain store (program (s .place)) (settled s) o
-  settled-out (fault k) e = refl
+  settled-out (fault f) e = refl
   settled-out stop e = rw (map-unseen landed rested (λ c. refl))
   settled-out (go vs ss j) e =
       let I = program (s .place) in
@@ -47,11 +47,11 @@ module _ {Memory Store : Type 0} (store : Store → Memory → Memory) (program 
   -- what the instruction reads has landed
   read : (r : ℕ) → List·Memᴰ r (program (s .place) .reads) → getD (map (λ (c : Cell). c .value) (s .registers)) r 0 ≡ getD (map landed (s .registers)) r 0
   read r m =
-      let idle = quiet store program starts loaded scheduled s fine r (Memᴰ·append-left _ m) in
+      let idle = quiet loaded scheduled s fine r (Memᴰ·append-left _ m) in
       let arrived : at (s .registers) r .landing ≡ 0 = omega (arith, fine .cells r .low) in
       rw (List·getD-map (λ (c : Cell). c .value) (s .registers) r still, List·getD-map landed (s .registers) r still, arrived)
 
   pub square : viewStep settled (step store program s) ≡ stepPlain store program (settled s)
   square =
-      rw (unhindered store program starts loaded scheduled s fine)
+      rw (unhindered loaded scheduled s fine)
       (settled-out (acted program s) refl ∙ ap (finishPlain store (program (s .place)) (settled s)) (loaded .reading (s .place) _ _ (s .memory) (fine .place) read))

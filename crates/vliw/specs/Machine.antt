@@ -5,6 +5,9 @@ use Prim.Native.Nat.{ℕ, suc, _-_}
 use lib.Dec.{ltb}
 use Rattle.word.specs.Choice.{pick}
 use Rattle.word.specs.Lists.{any}
+use Rattle.vliw.specs.declared.Fault.{Fault}
+use Rattle.vliw.specs.declared.Fault.the-variants.{InFlight}
+use Rattle.vliw.specs.declared.Ending.the-variants.{Stopped, Faulted}
 use Rattle.vliw.specs.Run.{Step, ends, next}
 use Rattle.vliw.specs.Cell.{Cell, Registers, Write, at, aged, rested, puts, choose, others}
 
@@ -12,9 +15,9 @@ pub record Dest : Type 0 where
   pub reg : ℕ
   pub delay : ℕ
 
--- what an instruction does: it faults with a number, stops, or goes on with a value for each destination, its stores and the next place
+-- what an instruction does: it faults, stops, or goes on with a value for each destination, its stores and the next place
 pub data Out (Store : Type 0) : Type 0 where
-  fault : ℕ → Out Store
+  fault : Fault → Out Store
   stop : Out Store
   go : List ℕ → List Store → ℕ → Out Store
 
@@ -63,7 +66,7 @@ pub record AnyOrder {Store : Type 0} (o : Orders Store) : Type 0 where
   pub results : (k : ℕ) (ws : List Write) → List·Permᴰ ws (o .results k ws)
   pub stores : (k : ℕ) (ss : List Store) → List·Permᴰ ss (o .stores k ss)
 
-pub record State (Memory Store : Type 0) : Type 0 where
+pub record Situation (Memory Store : Type 0) : Type 0 where
   pub place : ℕ
   pub registers : Registers
   pub memory : Memory
@@ -75,10 +78,10 @@ module _ {Memory Store : Type 0} (store : Store → Memory → Memory) where
   stores [] m = m
   stores (s ∷ ss) m = stores ss (store s m)
 
-  abbrev pub finish : Instruction Memory Store → State Memory Store → Out Store → Step (State Memory Store)
-  finish I s (fault k) = ends k s
+  abbrev pub finish : Instruction Memory Store → Situation Memory Store → Out Store → Step (Situation Memory Store)
+  finish I s (fault f) = ends (Faulted f) s
   finish I s stop =
-      ends 255
+      ends Stopped
       record {
         place = s .place;
         registers = map rested (s .registers);
@@ -96,10 +99,10 @@ module _ {Memory Store : Type 0} (store : Store → Memory → Memory) where
         orders = later (s .orders);
       }
 
-  -- 11 comes first; all operands and loaded bytes are read before anything is written
-  abbrev pub step : (ℕ → Instruction Memory Store) → State Memory Store → Step (State Memory Store)
+  -- a register in flight comes first; all operands and loaded bytes are read before anything is written
+  abbrev pub step : (ℕ → Instruction Memory Store) → Situation Memory Store → Step (Situation Memory Store)
   step program s =
       let I = program (s .place) in
       pick (anyBusy (uses I) (s .registers))
-      (ends 11 s)
+      (ends (Faulted InFlight) s)
       (finish I s (I .acts (map (λ (c : Cell). c .value) (s .registers)) (s .memory)))

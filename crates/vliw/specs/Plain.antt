@@ -2,6 +2,7 @@
 use mathlib.Core.List.{List, [], _∷_}
 use Prim.Native.Nat.{ℕ}
 use lib.ListN.{set}
+use Rattle.vliw.specs.declared.Ending.the-variants.{Stopped, Faulted}
 use Rattle.vliw.specs.Run.{Step, ends, next}
 use Rattle.vliw.specs.Machine.{Dest, Out, fault, stop, go, Instruction, stores}
 
@@ -17,8 +18,8 @@ assign (d ∷ ds) (v ∷ vs) l = assign ds vs (set l (d .reg) v)
 
 module _ {Memory Store : Type 0} (store : Store → Memory → Memory) where
   abbrev pub finishPlain : Instruction Memory Store → Plain Memory → Out Store → Step (Plain Memory)
-  finishPlain I s (fault k) = ends k s
-  finishPlain I s stop = ends 255 s
+  finishPlain I s (fault f) = ends (Faulted f) s
+  finishPlain I s stop = ends Stopped s
   finishPlain I s (go vs ss j) =
       next record { place = j; registers = assign (I .dests) vs (s .registers); memory = stores store ss (s .memory) }
 

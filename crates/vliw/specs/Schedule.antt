@@ -14,7 +14,7 @@ module _ (nexts : ℕ → List ℕ) where
 -- "an instruction p has a result with delay L in a register, not register 0, and some q is reached from p by k nexts, 1 <= k <= L-1,
 -- and q reads or writes that register": a destination in register 0 is no result
 module _ (starts : ℕ → Bool) (dests : ℕ → List Dest) (nexts : ℕ → List ℕ) (uses : ℕ → List ℕ) where
-  pub record TooSoon (p q : ℕ) : Type 0 where
+  pub record TouchesTooSoon (p q : ℕ) : Type 0 where
     pub producer : starts p ≡ true
     pub result : Dest
     pub of : List·Memᴰ result (dests p)
@@ -25,5 +25,5 @@ module _ (starts : ℕ → Bool) (dests : ℕ → List Dest) (nexts : ℕ → Li
     pub touched : List·Memᴰ (result .reg) (uses q)
 
   -- no path touches a result too soon
-  abbrev pub Passes : Type 0
-  Passes = (p q : ℕ) → TooSoon p q → ⊥
+  abbrev pub NoneTooSoon : Type 0
+  NoneTooSoon = (p q : ℕ) → TouchesTooSoon p q → ⊥

@@ -1,10 +1,25 @@
 // The abstract machine: its definitions are in specs/, its theorem in proofs/Demand3.antt. No code runs here.
 ghost use mathlib.Core.List.{List};
 ghost use Prim.Native.Nat.{ℕ};
-ghost use Rattle.vliw.specs.Demand3.{Demand3};
+ghost use Rattle.vliw.specs.Demand3.{AnyDemand3};
+
+// What an instruction may fault with, in the order of document 01's numbers.
+pub enum Fault {
+    InFlight,
+    Misaligned,
+    OutOfBounds,
+    StoresClash,
+}
+
+// How a run ends. `numberOf` of specs/Run.antt gives document 01's number of each.
+pub enum Ending {
+    Paused,
+    Stopped,
+    Faulted(Fault),
+}
 
 // Demand 3 of any machine. The function does nothing: its promise is the theorem, so that nobody drops it unseen. A promise speaks of one
 // memory and one kind of store, here lists of numbers; the proof is for all.
 pub fn demand_3()
-    ensures { λ _. ⌜ Demand3 (List ℕ) (List ℕ) ⌝ }
+    ensures { λ _. ⌜ AnyDemand3 (List ℕ) (List ℕ) ⌝ }
 {}

@@ -2,9 +2,9 @@
 use mathlib.Core.Path.{_≡_, refl, sym, _∙_}
 use mathlib.Core.Logic.{_⊎_, inl, inr}
 use mathlib.Core.Bool.{Bool, true, false, _||_, _&&_, true≢false}
-use Prim.Native.Nat.{_≤_}
+use Prim.Native.Nat.{ℕ, _≤_, _<_}
 use native.Mathlib.Omega.{arith}
-use Rattle.word.specs.Choice.{bit}
+use Rattle.word.specs.Choice.{pick, bit}
 
 pub by-test : (t : Bool) → (t ≡ true) ⊎ (t ≡ false)
 by-test true = inl refl
@@ -45,3 +45,7 @@ and-false false b e = inl refl
 pub bit-le : (t : Bool) → bit t ≤ 1
 bit-le true = omega arith
 bit-le false = omega arith
+
+pub pick-below : (t : Bool) {x y n : ℕ} → x < n → y < n → pick t x y < n
+pick-below true hx hy = hx
+pick-below false hx hy = hy

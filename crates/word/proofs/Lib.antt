@@ -1,4 +1,4 @@
 pub mod Choice
-pub mod Lowest
 pub mod Lists
 pub mod Bytes
+pub mod Widen

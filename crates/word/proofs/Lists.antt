@@ -13,8 +13,7 @@ use lib.Seq.{take-suc, take-all, drop-cons}
 use lib.Dec.{eqb}
 use borrow.Author.Tests.{eqb-true, eq-eqb}
 use Rattle.word.specs.Choice.{bit}
-use Rattle.word.specs.Lowest.{NoneBelow}
-use Rattle.word.specs.Lists.{any, count, fold, anyBelow, member, repeats}
+use Rattle.word.specs.Lists.{any, count, fold, anyBelow, NoneBelow, member, repeats}
 use Rattle.word.proofs.Choice.{never-both, is-false, or-true, or-false, or-right, bit-le}
 
 module _ {A : Type 0} where

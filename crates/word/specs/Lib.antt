@@ -1,4 +1,4 @@
 pub mod Choice
 pub mod Lists
-pub mod Lowest
 pub mod Bytes
+pub mod Widen

@@ -1,7 +1,8 @@
 -- Tests and counts over a list, and what a loop over a list gathers.
+use mathlib.Core.Path.{_≡_}
 use mathlib.Core.Bool.{Bool, false, _||_}
 use mathlib.Core.List.{List, [], _∷_}
-use Prim.Native.Nat.{ℕ, zero, suc, _+_}
+use Prim.Native.Nat.{ℕ, zero, suc, _+_, _<_}
 use lib.Dec.{eqb}
 use Rattle.word.specs.Choice.{bit}
 
@@ -24,6 +25,10 @@ module _ {A : Type 0} where
 abbrev pub anyBelow : (ℕ → Bool) → ℕ → Bool
 anyBelow f zero = false
 anyBelow f (suc n) = f n || anyBelow f n
+
+-- no number below n passes
+abbrev pub NoneBelow : (ℕ → Bool) → ℕ → Type 0
+NoneBelow f n = (i : ℕ) → i < n → f i ≡ false
 
 abbrev pub member : ℕ → List ℕ → Bool
 member x = any (eqb x)

@@ -21,10 +21,11 @@ compute-requires c κs = let p = c .before .before .before .before .before .pre 
 
 returns-2 : tie.Need-returns-2
 returns-2 c =
-    let l = c .before .before .before .before .before in
+    let b = c .before in
+    let l = b .before .before .before .before .before in
     let p = l .before .pre .1 .1 in
     λ m j ps ws ns h.
-    goes-ahead (sym (l .late .ensures) ∙ c .before .before .before .before .if1 .left) (computes (record { results = p .0; stores = h }) (p .1 .1) (p .1 .2) (c .compute .ensures))
+    goes-ahead (sym (l .late .ensures) ∙ b .before .before .before .before .if1 .left) (computes (record { results = p .0; stores = h }) (l .before .pre .0) (p .1 .1) (p .1 .2) (b .compute .ensures))
 
 pub computes-spec : {M : Type 1} → statement M
 computes-spec =

@@ -23,15 +23,16 @@ made-requires c κs = search needs
 result-requires : tie.Need-result-requires
 result-requires c κs =
     let p = c .before .before .before .before .before .before .pre in
-    (p .1 .0, (p .1 .1 .0, (omega (arith, p .1 .1 .1 .0), p .0 .t1)))
+    (p .1 .0, (p .1 .1 .0, (omega (arith, p .1 .1 .1 .0), p .0 .t)))
 
 returns-2 : tie.Need-returns-2
 returns-2 c =
-    let l = c .before .before .before .before .before .before in
+    let b = c .before in
+    let l = b .before .before .before .before .before .before in
     let p = l .before .pre in
     λ m j ps ws ns h.
-    goes-ahead (sym (l .late .ensures) ∙ c .before .before .before .before .before .if1 .left)
-    (copies (record { results = p .1 .1 .0; stores = h }) (p .0) (p .1 .1 .1 .1) (rw (c .before .before .before .before .made .ensures) at (c .result .ensures)))
+    goes-ahead (sym (l .late .ensures) ∙ b .before .before .before .before .before .if1 .left)
+    (copies (record { results = p .1 .1 .0; stores = h }) (p .0) (p .1 .1 .1 .1) (rw (b .before .before .before .before .made .ensures) at (b .result .ensures)))
 
 pub copies-spec : {M : Type 1} → statement M
 copies-spec =

@@ -17,4 +17,6 @@ late-spec =
     (λ c κs. search needs)
     (λ c. rw (sym (c .before .before .before .before .before .before .before .late .ensures) ∙ c .before .before .before .before .before .before .if1 .left, sym (c .before .before .before .before .before .late2 .ensures) ∙ c .before .before .before .before .if2 .left, sym (c .before .before .before .late3 .ensures) ∙ c .before .before .if3 .left, sym (c .before .late4 .ensures) ∙ c .if4 .taken))
     (λ c κs. search needs)
-    (λ c. rw (sym (c .before .before .before .before .before .before .before .before .late .ensures) ∙ c .before .before .before .before .before .before .before .if1 .left, sym (c .before .before .before .before .before .before .late2 .ensures) ∙ c .before .before .before .before .before .if2 .left, sym (c .before .before .before .before .late3 .ensures) ∙ c .before .before .before .if3 .left, sym (c .before .before .late4 .ensures) ∙ c .before .if4 .left) (c .late5 .ensures)))
+    (λ c. rw (sym (c .before .before .before .before .before .before .before .before .before .late .ensures) ∙ c .before .before .before .before .before .before .before .before .if1 .left, sym (c .before .before .before .before .before .before .before .late2 .ensures) ∙ c .before .before .before .before .before .before .if2 .left, sym (c .before .before .before .before .before .late3 .ensures) ∙ c .before .before .before .before .if3 .left, sym (c .before .before .before .late4 .ensures) ∙ c .before .before .if4 .left, sym (c .before .late5 .ensures) ∙ c .if5 .taken))
+    (λ c κs. search needs)
+    (λ c. rw (sym (c .before .before .before .before .before .before .before .before .before .before .late .ensures) ∙ c .before .before .before .before .before .before .before .before .before .if1 .left, sym (c .before .before .before .before .before .before .before .before .late2 .ensures) ∙ c .before .before .before .before .before .before .before .if2 .left, sym (c .before .before .before .before .before .before .late3 .ensures) ∙ c .before .before .before .before .before .if3 .left, sym (c .before .before .before .before .late4 .ensures) ∙ c .before .before .before .if4 .left, sym (c .before .before .late5 .ensures) ∙ c .before .if5 .left) (c .late6 .ensures)))

@@ -1,4 +1,4 @@
--- Register 0 stands for the number.
+-- Register 0 stands for the immediate.
 use borrow.Author.Tests.{eq-eqb, ne-eqb}
 use borrow.Author.Needs.{needs}
 use Rattle.gather.proofs.operands_at.Statement.{statement}

@@ -1,12 +1,12 @@
 -- The arrays are locals, lent to the loop: the state is entered, run and left.
-use borrow.Author.Needs.{needs}
 use mathlib.Core.Path.{refl, _∙_, ap}
 use native.Mathlib.Omega.{arith}
 use Rattle.isa.specs.declared.Place.{Place}
 use Rattle.machine.specs.State.{registersOf}
-use Rattle.run.specs.declared.Ran.{Ran as Left}
-use Rattle.run.proofs.Endings.{zero-idle, left-bank, returned}
 use Rattle.ticks.proofs.Cells.{fits-of}
+use Rattle.run.specs.declared.Left.{Left}
+use Rattle.run.proofs.Endings.{zero-idle, left-bank, returned}
+use borrow.Author.Needs.{needs}
 use Rattle.run.proofs.run.Statement.{statement}
 use Rattle.run.proofs.run.Tie as tie
 
@@ -14,7 +14,7 @@ enter-requires : tie.Need-enter-requires
 enter-requires c κs =
     let h = c .before .before .before .before .before .before .before in
     let p = h .pre in
-    (p .1 .0, (fits-of (registersOf (h .args .s)) (p .1 .1 .1), record { first = refl; second = refl; third = refl; fourth = refl }))
+    (p .1 .0, (fits-of (registersOf (h .args .s)) (p .1 .1 .1 .0), record { first = refl; second = refl; third = refl; fourth = refl }))
 
 run-all-requires : tie.Need-run-all-requires
 run-all-requires c κs =
@@ -23,39 +23,30 @@ run-all-requires c κs =
     let e = c .before .before .before .before .before .before .before .before .before .before .before .enter .ensures in (
       p .0,
       (
-        record { bank = e .0; start = p .1 .1 .0; idle = rw (e .1) (zero-idle (registersOf (h .args .s)) (p .1 .1 .1)) },
-        (record { registers = refl; results = refl; delays = refl; places = refl; words = refl; sizes = refl }, omega (arith, h .fits)),
+        record { bank = e .0; start = p .1 .1 .0; idle = rw (e .1) (zero-idle (registersOf (h .args .s)) (p .1 .1 .1 .0)) },
+        (record { registers = refl; results = refl; delays = refl; offsets = refl; contents = refl; sizes = refl }, p .1 .1 .1 .1),
       ),
     )
-
-left-at-requires : tie.Need-left-at-requires
-left-at-requires c κs = omega (arith, c .before .before .before .run-all .ensures .few, c .before .before .before .before .before .before .before .before .before .before .before .before .before .before .before .before .before .before .before .before .before .before .before .fits)
 
 leave-requires : tie.Need-leave-requires
 leave-requires c κs =
     let r = c .before .before .before .before .before .before .before .before .run-all in
-    rw (c .before .before .before .before .left-at .ensures) (left-bank (r .ensures .bank) (r .result .number))
-
-cast-t43 : tie.Need-cast-t43
-cast-t43 c = search needs
-
-same-length : tie.Need-same-length
-same-length c = search needs
+    rw (c .before .before .before .before .left-at .ensures) (left-bank (r .ensures .bank) (r .result .ending))
 
 -- what is returned, field by field
 returns : tie.Need-returns
 returns c =
-    let e = c .before .before .before .before .before .before .before .before .before .before .before .before .before .before .before .before .before .before .before .before .before .before .enter .ensures in
-    let r = c .before .before .before .before .before .before .before .before .before .before .run-all in
+    let e = c .before .before .before .before .before .before .before .before .before .before .before .before .before .before .before .before .before .before .before .before .before .enter .ensures in
+    let r = c .before .before .before .before .before .before .before .before .before .run-all in
     let f = r .ensures in
-    let l = c .before .leave .ensures in
+    let l = c .leave .ensures in
     let place = ap (λ (q : Place). q .0) (l .1 .0) in
-    let left : Left = record { number = r .result .number; count = r .result .count; state = c .before .leave .result } in
-    let is = returned {x = left} (e .1) f (l .0) refl refl place (l .1 .1 ∙ rw (c .before .before .before .before .before .before .left-at .ensures)) in (
+    let left : Left = record { ending = r .result .ending; count = r .result .count; state = c .leave .result } in
+    let is = returned {x = left} (e .1) f (l .0) refl refl place (l .1 .1 ∙ rw (c .before .before .before .before .before .left-at .ensures)) in (
       rw place (f .start),
       record {
         sized = is .sized;
-        number = is .number;
+        ending = is .ending;
         count = is .count;
         place = is .place;
         registers = is .registers;
@@ -69,8 +60,7 @@ run-spec =
     (tie.spec
     enter-requires
     run-all-requires
-    left-at-requires
+    (λ c κs. omega (arith, c .before .before .before .run-all .ensures .few, c .before .before .before .before .before .before .before .before .before .before .before .before .before .before .before .before .before .before .before .before .before .before .before .pre .1 .1 .1 .1))
     leave-requires
-    cast-t43
-    same-length
+    (λ c. search needs)
     returns)

@@ -5,8 +5,8 @@ use Prim.Native.Nat.{ℕ}
 use Rattle.word.specs.Bytes.{words}
 use Rattle.isa.specs.Table.{tableOf}
 use Rattle.isa.specs.declared.Table.{Table}
-use Rattle.isa.specs.Limits.{Limits}
-use Rattle.isa.proofs.Limits.{limits}
+use Rattle.isa.specs.Bounds.{Bounds}
+use Rattle.isa.proofs.Bounds.{bounds}
 use Rattle.loader.specs.Load.{loadedOf}
 use Rattle.loader.specs.declared.Loaded.the-variants.{Good}
 use Rattle.loader.specs.Passed.{Passed}
@@ -15,10 +15,10 @@ use Rattle.sandbox.proofs.checked.Statement.{statement}
 use Rattle.sandbox.proofs.checked.Tie as tie
 
 -- what loading gives the check, of the table as it was read
-ready : (table program room : List ℕ) {t : Table} → t ≡ tableOf table → loadedOf table program room ≡ Good → Limits t × Passed t (words program)
+ready : (table program room : List ℕ) {t : Table} → t ≡ tableOf table → loadedOf table program room ≡ Good → Bounds t × Passed t (words program)
 ready table program room e good =
     let a = accepted _ table program good in
-    rw e (limits table (a .limits), passed (tableOf table) (words program) (a .tested))
+    rw e (bounds table (a .limits), passed (tableOf table) (words program) (a .tested))
 
 check-requires : tie.Need-check-requires
 check-requires c κs =

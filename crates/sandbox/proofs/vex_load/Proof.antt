@@ -3,16 +3,16 @@ use mathlib.Core.Path.{_≡_, ap, _∙_}
 use mathlib.Core.List.{List}
 use Prim.Native.Nat.{ℕ}
 use Rattle.loader.specs.declared.Answer.{Answer}
-use Rattle.loader.specs.Answer.{Outcome, roomWith, loadAnswer, answered}
+use Rattle.loader.specs.Answer.{RoomOutcome, roomWith, loadAnswer, answered}
 use Rattle.loader.specs.declared.Loaded.{Loaded}
 use Rattle.sandbox.proofs.vex_load.Statement.{statement}
 use Rattle.sandbox.proofs.vex_load.Tie as tie
 
 -- what is written and returned is the answer of what was found
 left : (room : List ℕ) {a : Answer} {l m : Loaded} {after : List ℕ} → after ≡ roomWith a room → a ≡ loadAnswer l → l ≡ m
-    → (let o : Outcome = record { result = a .number; room = after } in o ≡ answered (loadAnswer m) room)
+    → (let o : RoomOutcome = record { result = a .number; room = after } in o ≡ answered (loadAnswer m) room)
 left room {a} w e h =
-    ap (λ (r : List ℕ). let o : Outcome = record { result = a .number; room = r } in o) w
+    ap (λ (r : List ℕ). let o : RoomOutcome = record { result = a .number; room = r } in o) w
     ∙ ap (λ (b : Answer). answered b room) (e ∙ ap loadAnswer h)
 
 returns : tie.Need-returns

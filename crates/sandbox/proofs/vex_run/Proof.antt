@@ -1,5 +1,5 @@
 use borrow.Author.Needs.{needs}
-use Rattle.machine.specs.Run.{Call}
+use Rattle.call.specs.Run.{Call}
 use Rattle.sandbox.proofs.Calls.{answered-run}
 use Rattle.sandbox.proofs.vex_run.Statement.{statement}
 use Rattle.sandbox.proofs.vex_run.Tie as tie

@@ -10,8 +10,8 @@ use Rattle.ticks.proofs.commit.Tie as tie
 
 abbrev Inv-loop : tie.InvT-loop
 Inv-loop value₀ old₀ ready₀ land₀ reg val del count landing used t k₀ value old ready land k =
-    (k ≤ count) × Bank t value old ready land
-    × (putFrom reg val del count landing used k (views t value old ready land) ≡ putFrom reg val del count landing used 0 (views t value₀ old₀ ready₀ land₀))
+    (k ≤ count) × Bank (t .0) value old ready land
+    × (putFrom reg val del count landing used k (views (t .0) value old ready land) ≡ putFrom reg val del count landing used 0 (views (t .0) value₀ old₀ ready₀ land₀))
 
 abbrev μ-loop : tie.MeasureT-loop
 μ-loop value₀ old₀ ready₀ land₀ reg val del count landing used t k₀ value old ready land k = count - k

@@ -15,7 +15,7 @@ use Rattle.ticks.proofs.leave_bank.Tie as tie
 abbrev Inv-loop : tie.InvT-loop
 Inv-loop value old ready land t base n v₀ w₀ b₀ l₀ k₀ v w b l k =
     (k ≤ n) × Sizes n v w b l
-    × (sets (cells v w b l) k (drop k (slice base (base + n) (views t value old ready land))) ≡ slice base (base + n) (views t value old ready land))
+    × (sets (cells v w b l) k (drop k (slice base (base + n) (views (t .0) value old ready land))) ≡ slice base (base + n) (views (t .0) value old ready land))
 
 abbrev μ-loop : tie.MeasureT-loop
 μ-loop value old ready land t base n v₀ w₀ b₀ l₀ k₀ v w b l k = n - k
@@ -28,7 +28,7 @@ loop-holds c =
     let h = c .before .before .before .before in
     let a = h .args in
     let z = h .pre .1 .0 in
-    (omega arith, z, sets-whole _ _ (cells-length z ∙ sym (part-length (h .pre .0 .sizes) (a .t) (a .base) (a .n) (h .pre .1 .1))))
+    (omega arith, z, sets-whole _ _ (cells-length z ∙ sym (part-length (h .pre .0 .sizes) (a .t .0) (a .base) (a .n) (h .pre .1 .1))))
 
 add-leave-one : tie.Need-add-leave-one Inv-loop μ-loop
 add-leave-one c = search needs
@@ -60,8 +60,8 @@ loop-again c =
     let z = h .pre .0 .sizes in (
       omega (arith, i .loop-test .taken),
       d .leave-one .ensures .0,
-      fill-turn _ _ _ _ k (k + 1) k _ still (omega (arith, i .loop-test .taken, part-length z (a .t) (a .base) (a .n) (h .pre .1 .1)))
-          (part-at z (a .t) (a .base) (a .n) (h .pre .1 .1) k (i .loop-test .taken)) (d .leave-one .ensures .1) refl (l .loop .inv .2),
+      fill-turn _ _ _ _ k (k + 1) k _ still (omega (arith, i .loop-test .taken, part-length z (a .t .0) (a .base) (a .n) (h .pre .1 .1)))
+          (part-at z (a .t .0) (a .base) (a .n) (h .pre .1 .1) k (i .loop-test .taken)) (d .leave-one .ensures .1) refl (l .loop .inv .2),
     )
 
 same-length : tie.Need-same-length Inv-loop μ-loop
@@ -83,7 +83,7 @@ returns c =
     let a = h .args in
     let k = l .loop .k in (
       l .loop .inv .1,
-      fill-end _ _ _ k k (omega (arith, c .loop-test .left, part-length (h .pre .0 .sizes) (a .t) (a .base) (a .n) (h .pre .1 .1))) (l .loop .inv .2),
+      fill-end _ _ _ k k (omega (arith, c .loop-test .left, part-length (h .pre .0 .sizes) (a .t .0) (a .base) (a .n) (h .pre .1 .1))) (l .loop .inv .2),
     )
 
 pub leave-bank-spec : {M : Type 1} → statement M

@@ -71,7 +71,7 @@ returns c =
     let a = h .args in (
       sizes-set (h .pre .1 .0) (a .k) (d .before .read .result) (d .waiting .result) (c .before .before .left .result) (c .left2 .result),
       rw (d .before .read .ensures, d .waiting .ensures, c .before .before .left .ensures, c .left2 .ensures)
-          (leave-cells (h .pre .0 .sizes) (a .t) (a .r) (h .pre .1 .1 .0) (a .v .now) (a .w .now) (a .b .now) (a .l .now) (a .k)),
+          (leave-cells (h .pre .0 .sizes) (a .t .0) (a .r) (h .pre .1 .1 .0) (a .v .now) (a .w .now) (a .b .now) (a .l .now) (a .k)),
     )
 
 pub leave-one-spec : {M : Type 1} → statement M

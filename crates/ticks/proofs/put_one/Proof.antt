@@ -40,11 +40,11 @@ element-write-land c = search needs
 
 returns : tie.Need-returns
 returns c =
-    let h = c .before .before .before .before in
+    let h = c .before .before .before .before .before .before in
     let a = h .args in
     let p = h .pre .1 in (
-      put-bank (h .pre .0) (a .r) (p .0) (a .v) _ _ (c .read .result) (omega (arith, p .1)) (omega (arith, p .1, p .2)),
-      rw (c .read .ensures) (put-views (h .pre .0) (a .r) (p .0) (a .v) (a .b) (a .l)),
+      put-bank (h .pre .0) (a .r) (p .0) (a .v) _ _ (c .before .before .read .result) (omega (arith, p .1)) (omega (arith, p .1, p .2)),
+      rw (c .before .before .read .ensures) (put-views (h .pre .0) (a .r) (p .0) (a .v) (a .b) (a .l)),
     )
 
 pub put-one-spec : {M : Type 1} → statement M

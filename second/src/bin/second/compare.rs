@@ -3,7 +3,7 @@
 use crate::describe;
 use crate::requests::Request;
 use crate::tally::Tally;
-use std::io::{BufReader, BufWriter, Write};
+use std::io::{BufReader, BufWriter, Read, Write};
 use std::process::{Command, Stdio};
 use std::sync::mpsc;
 use std::thread;
@@ -17,7 +17,8 @@ pub fn same_bytes(request: &Request, answer: &[u8]) -> Option<String> {
     (own != answer).then(|| describe::difference(request, &own, answer))
 }
 
-/// Asks the command, or this program if there is none, and judges every answer; false at the first bad one.
+/// Asks the command, or this program if there is none, and judges every answer; false at the first bad one and if bytes come after
+/// the last.
 pub fn compare(
     requests: impl Iterator<Item = (u64, Request)> + Send + 'static,
     command: &[String],
@@ -25,10 +26,12 @@ pub fn compare(
     tally: &mut Tally,
 ) -> Result<bool, String> {
     let mut judged = |index: u64, request: &Request, answer: &[u8]| {
+        if let Some(wrong) = judge(request, answer) {
+            println!("request {index} differs\n{}{wrong}", describe::call(request));
+            return false;
+        }
         tally.request(request);
-        let Some(wrong) = judge(request, answer) else { return true };
-        println!("request {index} differs\n{}{wrong}", describe::call(request));
-        false
+        true
     };
     let Some((name, arguments)) = command.split_first() else {
         for (index, request) in requests {
@@ -77,9 +80,42 @@ pub fn compare(
         let _ = child.kill();
     }
     writer.join().map_err(|_| "the writer of requests failed".to_string())?;
+    if outcome == Ok(true) && more(&mut from_child)? {
+        let _ = child.kill();
+        outcome = Ok(false);
+    }
     let status = child.wait().map_err(|error| error.to_string())?;
     if outcome == Ok(true) && !status.success() {
         return Err(format!("the other side ended with {status}"));
     }
     outcome
+}
+
+/// Bytes after the last answer are a difference.
+fn more(from: &mut dyn Read) -> Result<bool, String> {
+    let mut bytes = Vec::new();
+    from.take(16).read_to_end(&mut bytes).map_err(|error| format!("reading after the last answer: {error}"))?;
+    if !bytes.is_empty() {
+        println!("bytes after the last answer: {}", describe::hex(&bytes, 15));
+    }
+    Ok(!bytes.is_empty())
+}
+
+#[cfg(test)]
+mod tests {
+    use super::*;
+
+    fn compared(after: &str) -> Result<bool, String> {
+        let request = Request::Text(b"00\n".to_vec());
+        // an output of no bytes, then what comes after it
+        let script = format!("cat >/dev/null; printf '\\0\\0\\0\\0{after}'");
+        let command = ["sh".to_string(), "-c".to_string(), script];
+        compare([(0, request)].into_iter(), &command, &|_, _| None, &mut Tally::default())
+    }
+
+    #[test]
+    fn bytes_after_the_last_answer_are_a_difference() {
+        assert_eq!(compared(""), Ok(true));
+        assert_eq!(compared("x"), Ok(false));
+    }
 }

@@ -33,6 +33,14 @@ second replay < requests > answers
     answers requests as this program does
 ";
 
+/// The form of a subcommand in one line, for whoever wrote another.
+const COMPARE: &str = "second KIND --seed S --count N [--first I] [-- COMMAND ..]";
+const LANDINGS: &str = "second landings --seed S --count N [-- COMMAND ..]";
+const RECORD: &str =
+    "second record KIND --seed S --count N [--first I] [--only I] > requests; KIND is values, load, check, run or text";
+const SELECT: &str =
+    "second select KIND --seed S --count N --each K --most B > requests; KIND is values, load, check, run or text";
+
 /// What stands on the command line after the subcommand.
 struct Options {
     seed: u64,
@@ -44,7 +52,7 @@ struct Options {
     command: Vec<String>,
 }
 
-fn options(arguments: &[String]) -> Result<Options, String> {
+fn options(arguments: &[String], form: &str) -> Result<Options, String> {
     let mut options =
         Options { seed: 1, count: 1000, first: None, only: None, each: 10, most: 1000, command: Vec::new() };
     let mut rest = arguments.iter();
@@ -53,16 +61,18 @@ fn options(arguments: &[String]) -> Result<Options, String> {
             options.command = rest.cloned().collect();
             break;
         }
-        let value = rest.next().and_then(|value| value.parse::<u64>().ok());
-        let value = value.ok_or_else(|| format!("{name} needs a number"))?;
+        let mut number = || {
+            let value = rest.next().and_then(|value| value.parse::<u64>().ok());
+            value.ok_or_else(|| format!("{name} needs a number: {form}"))
+        };
         match name.as_str() {
-            "--seed" => options.seed = value,
-            "--count" => options.count = value,
-            "--first" => options.first = Some(value),
-            "--only" => options.only = Some(value),
-            "--each" => options.each = value,
-            "--most" => options.most = value,
-            _ => return Err(format!("no option {name}")),
+            "--seed" => options.seed = number()?,
+            "--count" => options.count = number()?,
+            "--first" => options.first = Some(number()?),
+            "--only" => options.only = Some(number()?),
+            "--each" => options.each = number()?,
+            "--most" => options.most = number()?,
+            _ => return Err(format!("no option {name:?}: {form}")),
         }
     }
     Ok(options)
@@ -83,24 +93,29 @@ fn main() -> ExitCode {
 /// True if all went well, false at a difference.
 fn command(arguments: &[String]) -> Result<bool, String> {
     let words: Vec<&str> = arguments.iter().map(String::as_str).collect();
+    let kind = |words: &[&str], form: &str| {
+        let name = words.first().ok_or_else(|| format!("which kind: {form}"))?;
+        Kind::named(name).ok_or_else(|| format!("no kind {name:?}: {form}"))
+    };
     match words.as_slice() {
         [] | ["--help"] | ["-h"] => {
             print!("{USAGE}");
             Ok(true)
         }
         ["expect"] | ["replay"] => replay().map(|()| true).map_err(|error| error.to_string()),
-        ["record", name, ..] => {
-            let kind = Kind::named(name).ok_or_else(|| format!("no kind {name}\n{USAGE}"))?;
-            record(kind, &options(&arguments[2..])?).map(|()| true).map_err(|error| error.to_string())
+        [name @ ("expect" | "replay"), ..] => Err(format!("no arguments: second {name} < requests > answers")),
+        ["record", rest @ ..] => {
+            let kind = kind(rest, RECORD)?;
+            record(kind, &options(&arguments[2..], RECORD)?).map(|()| true).map_err(|error| error.to_string())
         }
-        ["select", name, ..] => {
-            let kind = Kind::named(name).ok_or_else(|| format!("no kind {name}\n{USAGE}"))?;
-            selected(kind, &options(&arguments[2..])?).map(|()| true).map_err(|error| error.to_string())
+        ["select", rest @ ..] => {
+            let kind = kind(rest, SELECT)?;
+            selected(kind, &options(&arguments[2..], SELECT)?).map(|()| true).map_err(|error| error.to_string())
         }
-        ["landings", ..] => landed(&options(&arguments[1..])?),
+        ["landings", ..] => landed(&options(&arguments[1..], LANDINGS)?),
         [name, ..] => {
-            let kind = Kind::named(name).ok_or_else(|| format!("no subcommand {name}\n{USAGE}"))?;
-            compared(kind, &options(&arguments[1..])?)
+            let kind = Kind::named(name).ok_or_else(|| format!("no subcommand {name:?}: second --help lists them"))?;
+            compared(kind, &options(&arguments[1..], COMPARE)?)
         }
     }
 }

@@ -10,13 +10,13 @@ use Rattle.isa.proofs.decode.compute.Tie as tie
 
 narrow-requires : tie.Need-narrow-requires
 narrow-requires c κs =
-    let (p, q) = within-range 19 23 _ (sym (c .before .within .ensures) ∙ c .if1 .taken) in
+    let (p, q) = within-range 19 23 _ (rw (c .before .before .opcode .ensures) at (sym (c .before .within .ensures) ∙ c .if1 .taken)) in
     (c .before .before .before .pre .0, p, q)
 
 returns-2 : tie.Need-returns-2
 returns-2 c =
     let e = c .before .before .before in
-    as-form _ _ Two _ (among-two _ (omega arith) (omega arith) (sym (e .before .within .ensures) ∙ e .if1 .left)) (search fields)
+    as-form _ _ Two _ (among-two _ (omega arith) (omega arith) (rw (e .before .before .opcode .ensures) at (sym (e .before .within .ensures) ∙ e .if1 .left))) (search fields)
 
 pub compute-spec : {M : Type 1} → statement M
 compute-spec =

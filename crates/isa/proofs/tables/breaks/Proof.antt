@@ -1,17 +1,17 @@
 -- The four tests are those of the definition, in its order.
 use borrow.Author.Needs.{needs}
-use Rattle.isa.specs.Table.{tableBreaks}
+use Rattle.isa.specs.Table.{badTable}
 use Rattle.isa.proofs.tables.breaks.Statement.{statement}
 use Rattle.isa.proofs.tables.breaks.Tie as tie
 
 returns : tie.Need-returns
-unfolding tableBreaks
+unfolding badTable
 returns c =
     rw (
       c .either4 .ensures,
-      c .before .any-delay-breaks .ensures,
+      c .before .any-bad-delay .ensures,
       c .before .before .either3 .ensures,
-      c .before .before .before .any-cluster-breaks .ensures,
+      c .before .before .before .any-bad-units .ensures,
       c .before .before .before .before .either2 .ensures,
       c .before .before .before .before .before .either .ensures,
       c .before .before .before .before .before .before .byte-at .ensures,

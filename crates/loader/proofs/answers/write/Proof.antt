@@ -3,6 +3,7 @@ use borrow.Author.Tests.{eq-eqb, ne-eqb}
 use mathlib.Core.Path.{_≡_, refl, sym, _∙_, ap}
 use mathlib.Core.List.{List, _++_}
 use Prim.Native.Nat.{ℕ, _+_, _%_, _^_}
+use native.Mathlib.Omega.{arith}
 use lib.ListN.{length}
 use lib.Seq.{sets}
 use Rattle.word.specs.Bytes.{bytes, putWord}
@@ -29,8 +30,9 @@ returns c =
     let third = c .before .before .put-word3 .ensures in
     let second = c .before .before .before .before .before .before .before .put-word2 .ensures in
     let first = c .before .before .before .before .before .before .before .before .before .before .before .before .put-word .ensures in
-    rw (eq-eqb _ _ (then1 .if1 .taken))
-    (third ∙ ap (putWord 8 _) (second ∙ ap (putWord 4 _) first) ∙ filled (start .args .room .now) (start .args .a .number) (start .args .a .count) (start .args .a .place) (then1 .if1 .taken))
+    let whole : length (start .args .room .now) ≡ 12 = omega (arith, then1 .if1 .taken) in
+    rw (eq-eqb _ _ whole)
+    (third ∙ ap (putWord 8 _) (second ∙ ap (putWord 4 _) first) ∙ filled (start .args .room .now) (start .args .a .number) (start .args .a .count) (start .args .a .place) whole)
 
 returns-2 : tie.Need-returns-2
 unfolding roomWith

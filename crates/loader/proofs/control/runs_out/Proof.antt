@@ -1,10 +1,9 @@
--- The part that is passed on is the instruction.
+-- By where the instruction ends; only the last one's syllables are looked at.
 use borrow.Author.Needs.{needs}
 use borrow.Author.Tests.{eq-eqb, ne-eqb}
 use Rattle.word.specs.Bytes.{words}
 use Rattle.word.proofs.Bytes.{words-length}
 use Rattle.isa.proofs.Instructions.{start-inside}
-use Rattle.loader.proofs.Walks.{part-instruction}
 use Rattle.loader.proofs.control.runs_out.Statement.{statement}
 use Rattle.loader.proofs.control.runs_out.Tie as tie
 
@@ -13,23 +12,12 @@ following-requires c κs = start-inside (words (c .before .args .program .now)) 
 
 returns : tie.Need-returns
 returns c =
-    let s = c .before .before .before .before .before in
-    let f = c .before .before .before .following in
-    rw (c .any-leaves .ensures, part-instruction (s .args .program .now) (s .args .at .0) (f .result .0) (s .pre) (f .ensures), ← f .ensures, words-length, eq-eqb _ _ (c .before .before .if1 .taken))
+    let t = c .before .before in
+    rw (c .any-leaves .ensures, c .before .cut .ensures, ← t .before .before .following .ensures, words-length, eq-eqb _ _ (t .if1 .taken))
 
 returns-2 : tie.Need-returns-2
-returns-2 c = rw (← c .before .following .ensures, words-length, ne-eqb _ _ (c .if1 .left))
+returns-2 c = rw (← c .before .before .following .ensures, words-length, ne-eqb _ _ (c .if1 .left))
 
 pub runs-out-spec : {M : Type 1} → statement M
 runs-out-spec =
-    tie.close
-    (tie.spec
-    following-requires
-    (λ c. search needs)
-    (λ c. search needs)
-    (λ c. search needs)
-    (λ c. search needs)
-    (λ c. search needs)
-    (λ c κs. search needs)
-    returns
-    returns-2)
+    tie.close (tie.spec following-requires (λ c κs. search needs) (λ c κs. search needs) returns returns-2)

@@ -1,6 +1,6 @@
 use borrow.Author.Needs.{needs}
 use mathlib.Core.Path.{sym, _∙_}
-use Rattle.isa.proofs.Limits.{limits}
+use Rattle.isa.proofs.Bounds.{bounds}
 use Rattle.loader.specs.Load.{loadedWith}
 use Rattle.loader.proofs.numbers.load_with.Statement.{statement}
 use Rattle.loader.proofs.numbers.load_with.Tie as tie
@@ -12,7 +12,7 @@ returns c = rw (sym (c .before .breaks .ensures) ∙ c .if1 .taken)
 tested-requires : tie.Need-tested-requires
 tested-requires c κs =
     let passes = sym (c .before .before .before .before .breaks .ensures) ∙ c .before .before .before .if1 .left in
-    (rw (c .read .ensures) (limits _ passes), c .before .before .before .before .before .before .before .pre (c .before .enum-told .given .1))
+    (rw (c .read .ensures) (bounds _ passes), c .before .before .before .before .before .before .before .pre (c .before .enum-told .given .1))
 
 returns-2 : tie.Need-returns-2
 unfolding loadedWith

@@ -8,7 +8,7 @@ use lib.ListN.{length, take}
 use lib.Seq.{sets, take-suc, length-take-le}
 use borrow.Author.Needs.{needs}
 use Rattle.vliw.specs.Cell.{Registers, still}
-use Rattle.machine.specs.Image.{offset, cellBytes, registerBytes}
+use Rattle.machine.specs.Image.{imageOffset, cellBytes, registerBytes}
 use Rattle.machine.specs.State.{cells}
 use Rattle.machine.proofs.Arrays.{Long, long, cells-length, cells-all, cellOf, cells-at}
 use Rattle.machine.proofs.Images.{registerBytes-length, registerBytes-append, sets-append}
@@ -16,20 +16,20 @@ use Rattle.machine.proofs.image.put_bank.Statement.{statement}
 use Rattle.machine.proofs.image.put_bank.Tie as tie
 
 turn : {n : ℕ} {vs ws bs ls : List ℕ} → Long n vs ws bs ls → (image : List ℕ) (r i : ℕ) → i < n
-    → sets (sets image (offset r) (registerBytes (take i (cells vs ws bs ls)))) (offset (r + i)) (cellBytes (cellOf vs ws bs ls i))
-    ≡ sets image (offset r) (registerBytes (take (i + 1) (cells vs ws bs ls)))
+    → sets (sets image (imageOffset r) (registerBytes (take i (cells vs ws bs ls)))) (imageOffset (r + i)) (cellBytes (cellOf vs ws bs ls i))
+    ≡ sets image (imageOffset r) (registerBytes (take (i + 1) (cells vs ws bs ls)))
 turn {vs} {ws} {bs} {ls} z image r i h =
     let l : Registers = cells vs ws bs ls in
     let b : i < length l = omega (arith, cells-length z) in
     rw (add-one, take-suc l i still b, registerBytes-append, cells-at z i h)
-    (sets-append image (offset r) (registerBytes (take i l)) (cellBytes (cellOf vs ws bs ls i))
+    (sets-append image (imageOffset r) (registerBytes (take i l)) (cellBytes (cellOf vs ws bs ls i))
     (omega (arith, registerBytes-length (take i l), length-take-le i l (omega arith))))
 
 abbrev Inv-loop : tie.InvT-loop
 Inv-loop image₀ base value waiting busy landing i₀ i-end image i =
     (i ≤ length value) × (i-end ≡ length value) × Long (length value) value waiting busy landing
     × (length image ≡ length image₀)
-    × (image ≡ sets image₀ (offset base) (registerBytes (take i (cells value waiting busy landing))))
+    × (image ≡ sets image₀ (imageOffset base) (registerBytes (take i (cells value waiting busy landing))))
 
 abbrev μ-loop : tie.MeasureT-loop
 μ-loop image₀ base value waiting busy landing i₀ i-end image i = length value - i

@@ -9,7 +9,7 @@ use lib.Seq.{sets}
 use borrow.Author.Needs.{needs}
 use Rattle.word.specs.Bytes.{putWord}
 use Rattle.vliw.specs.Cell.{Cell}
-use Rattle.machine.specs.Image.{offset, cellBytes}
+use Rattle.machine.specs.Image.{imageOffset, cellBytes}
 use Rattle.machine.proofs.image.put_cell.Statement.{statement}
 use Rattle.machine.proofs.image.put_cell.Tie as tie
 
@@ -17,11 +17,8 @@ put : (l : List ℕ) (at : ℕ) (c : Cell)
     → set (set (putWord (at + 4) (c .waiting) (putWord at (c .value) l)) (at + 8) (c .busy)) (at + 9) (c .landing) ≡ sets l at (cellBytes c)
 put l at c = let e : at + 9 ≡ suc (at + 8) = omega arith in rw (e, add-four, add-eight)
 
-mul-at : tie.Need-mul-at
-mul-at c = search needs
-
-add-at : tie.Need-add-at
-add-at c = search needs
+offset-requires : tie.Need-offset-requires
+offset-requires c κs = search needs
 
 put-word-requires : tie.Need-put-word-requires
 put-word-requires c κs = search needs
@@ -50,16 +47,16 @@ same-length c = simp length-set (omega arith)
 returns : tie.Need-returns
 returns c =
     let p = c .before .before in
-    let a = p .before .before .before .before .before .before .before .args in
-    rw (p .put-word2 .ensures, p .before .before .before .before .put-word .ensures)
-    (put (a .image .now) (offset (a .r)) (record { value = a .value; waiting = a .waiting; busy = a .busy; landing = a .landing }))
+    let o = p .before .before .before .before .before .before in
+    let a = o .before .before .args in
+    rw (p .put-word2 .ensures, p .before .before .before .before .put-word .ensures, o .offset .ensures)
+    (put (a .image .now) (imageOffset (a .r)) (record { value = a .value; waiting = a .waiting; busy = a .busy; landing = a .landing }))
 
 pub put-cell-spec : {M : Type 1} → statement M
 put-cell-spec =
     tie.close
     (tie.spec
-    mul-at
-    add-at
+    offset-requires
     put-word-requires
     add-put-word
     put-word-requires-2

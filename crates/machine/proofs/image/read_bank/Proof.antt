@@ -34,14 +34,11 @@ abbrev μ-loop : tie.MeasureT-loop
 loop-holds : tie.Need-loop-holds Inv-loop μ-loop
 loop-holds c = (omega arith, refl, long (c .before .before .before .before .before .pre .1), refl)
 
-add-at : tie.Need-add-at Inv-loop μ-loop
-add-at c = search needs
+add-offset : tie.Need-add-offset Inv-loop μ-loop
+add-offset c = search needs
 
-mul-at : tie.Need-mul-at Inv-loop μ-loop
-mul-at c = search needs
-
-add-at-2 : tie.Need-add-at-2 Inv-loop μ-loop
-add-at-2 c = search needs
+offset-requires : tie.Need-offset-requires Inv-loop μ-loop
+offset-requires c κs = search needs
 
 word-at-requires : tie.Need-word-at-requires Inv-loop μ-loop
 word-at-requires c κs = search needs
@@ -90,13 +87,13 @@ loop-less c = search needs
 
 loop-again : tie.Need-loop-again Inv-loop μ-loop
 loop-again c =
-    let h = c .before .before .before .before .before in
+    let h = c .before .before .before .before .before .before in
     let a = h .before .before .before .before .before .before .args in
     let z = h .loop .inv .2 in (
       omega arith,
       refl,
       long-set z _ _ _ _ _,
-      rw (c .before .before .before .word-at .ensures, c .before .before .word-at2 .ensures) (turn z (a .image .now) (a .base) (h .loop .i) (omega arith) (h .loop .inv .3)),
+      rw (c .before .before .before .word-at .ensures, c .before .before .word-at2 .ensures, c .before .before .before .before .offset .ensures) (turn z (a .image .now) (a .base) (h .loop .i) (omega arith) (h .loop .inv .3)),
     )
 
 same-length : tie.Need-same-length Inv-loop μ-loop
@@ -124,9 +121,8 @@ read-bank-spec =
     Inv-loop
     μ-loop
     loop-holds
-    add-at
-    mul-at
-    add-at-2
+    add-offset
+    offset-requires
     word-at-requires
     mul-value
     slice-write-value

@@ -8,7 +8,7 @@ use lib.ListN.{length, length-append}
 use lib.Seq.{sets, sets-eq, drop-length}
 use borrow.Author.Needs.{needs}
 use Rattle.word.specs.Bytes.{bytes, putWord}
-use Rattle.machine.specs.Image.{offset, registerBytes, imageOf}
+use Rattle.machine.specs.Image.{imageOffset, registerBytes, imageOf}
 use Rattle.machine.specs.State.{registersOf, Sized}
 use Rattle.machine.specs.declared.State.{State}
 use Rattle.machine.proofs.Arrays.{cells-length, generalOf, branchOf, general, branch}
@@ -20,7 +20,7 @@ sets-all : (l xs : List ℕ) → length xs ≡ length l → sets l 0 xs ≡ xs
 sets-all l xs e = rw (sets-eq xs l 0 (omega arith), zero-add, e, drop-length) (append-nil xs)
 
 filled : {s : State} → Sized s → (image : List ℕ) → length image ≡ 2884
-    → sets (sets (putWord 0 (s .place .0) image) (offset 0) (registerBytes (generalOf s))) (offset 256) (registerBytes (branchOf s))
+    → sets (sets (putWord 0 (s .place .0) image) (imageOffset 0) (registerBytes (generalOf s))) (imageOffset 256) (registerBytes (branchOf s))
     ≡ imageOf (s .place .0) (registersOf s)
 unfolding imageOf
 filled {s} z image e =

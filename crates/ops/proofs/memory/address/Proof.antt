@@ -1,6 +1,6 @@
 -- The wrapping sum is the address.
 use borrow.Author.Needs.{needs}
-use Rattle.ops.specs.Value.{address}
+use Rattle.meanings.specs.Value.{address}
 use Rattle.ops.proofs.memory.address.Statement.{statement}
 use Rattle.ops.proofs.memory.address.Tie as tie
 

@@ -1,7 +1,7 @@
 -- Each arm by its opcode, the last by no opcode of the others.
 use borrow.Author.Needs.{needs}
 use borrow.Author.Tests.{ne-eqb}
-use Rattle.ops.specs.Value.{loaded}
+use Rattle.meanings.specs.Value.{loaded}
 use Rattle.ops.proofs.memory.loaded.Statement.{statement}
 use Rattle.ops.proofs.memory.loaded.Tie as tie
 

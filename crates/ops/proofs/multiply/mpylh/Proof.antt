@@ -1,6 +1,6 @@
 use mathlib.Core.Path.{_∙_}
 use Prim.Native.Nat.{_*_}
-use Rattle.ops.specs.Arith.{wrap}
+use Rattle.meanings.specs.Arith.{wrap}
 use borrow.Author.Needs.{needs}
 use Rattle.ops.proofs.multiply.mpylh.Statement.{statement}
 use Rattle.ops.proofs.multiply.mpylh.Tie as tie

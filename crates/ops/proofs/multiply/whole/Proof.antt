@@ -1,5 +1,5 @@
 use borrow.Author.Needs.{needs}
-use Rattle.ops.proofs.Product.{product-below}
+use Rattle.meanings.proofs.Product.{product-below}
 use Rattle.ops.proofs.multiply.whole.Statement.{statement}
 use Rattle.ops.proofs.multiply.whole.Tie as tie
 

@@ -1,4 +1,4 @@
-use Rattle.ops.specs.Value.{carry}
+use Rattle.meanings.specs.Value.{carry}
 use borrow.Author.Needs.{needs}
 use Rattle.ops.proofs.sum.carry.Statement.{statement}
 use Rattle.ops.proofs.sum.carry.Tie as tie

@@ -5,25 +5,26 @@ use mathlib.Core.Logic.{⊎-elim}
 use Prim.Native.Nat.{ℕ, _≤_, _<_}
 use native.Mathlib.Omega.{arith}
 use lib.ListN.{getD}
-use Rattle.schedule.proofs.Growing.{grown-there, below-later, grown-put}
+use Rattle.schedule.proofs.Growing.{joined-there, below-later, joined-put}
 use Rattle.schedule.proofs.reach.insert.Statement.{statement}
 use Rattle.schedule.proofs.reach.insert.Tie as tie
 
 returns : tie.Need-returns
 returns c =
-    let start = c .before .before .before .before .before in
-    grown-there _ (start .pre .1) (c .before .before .before .position .result, c .before .before .if1 .taken, eqb-true _ _ (c .if2 .taken), start .pre .1 .low _ (c .before .before .if1 .taken))
+    let t = c .before .before .before in
+    let start = t .before .before .before in
+    joined-there _ (start .pre .1) (t .before .position .result, t .if1 .taken, eqb-true _ _ (c .if2 .taken), start .pre .1 .low _ (t .if1 .taken))
 
 -- the places from the position on are above q
 above : (c : tie.Joined1) →
     let start = c .before .before .before in
-    (j : ℕ) → c .before .position .result ≤ j → j < start .args .count → start .args .q < getD (start .args .places .now) j 0
+    (j : ℕ) → c .before .position .result ≤ j → j < start .args .count → start .args .q .0 < getD (start .args .places .now) j 0
 above c j a b =
     let start = c .before .before .before in
     let at = c .before .position in
     ⊎-elim
     (λ w.
-    let other = eqb-false (getD (start .args .places .now) (at .result) 0) (start .args .q) (w .2 .left) in
+    let other = eqb-false (getD (start .args .places .now) (at .result) 0) (start .args .q .0) (w .3 .left) in
     below-later _ (start .pre .1) (omega (arith, at .ensures .1 .1 (w .0 .taken))) j a b)
     (λ w. absurd (omega arith))
     (c .if1 .came)
@@ -32,7 +33,7 @@ returns-2 : tie.Need-returns-2
 returns-2 c =
     let met = c .before .before .before .before in
     let p = met .before .position .ensures in
-    grown-put _ (met .before .before .before .pre .1) (c .before .before .put-in .ensures) (c .put-in2 .ensures) (p .0) (omega arith) (p .1 .0) (above met)
+    joined-put _ (met .before .before .before .pre .1) (c .before .before .put-in .ensures) (c .put-in2 .ensures) (p .0) (omega arith) (p .1 .0) (above met)
 
 pub insert-spec : {M : Type 1} → statement M
 insert-spec =

@@ -8,16 +8,16 @@ use Rattle.schedule.proofs.reach.position.Statement.{statement}
 use Rattle.schedule.proofs.reach.position.Tie as tie
 
 abbrev Inv-loop : tie.InvT-loop
-Inv-loop places count q i₀ i = (i ≤ count) × ((j : ℕ) → j < i → getD places j 0 < q)
+Inv-loop places count q i₀ i = (i ≤ count) × ((j : ℕ) → j < i → getD places j 0 < q .0)
 
 abbrev μ-loop : tie.MeasureT-loop
 μ-loop places count q i₀ i = count - i
 
 loop-again : tie.Need-loop-again Inv-loop μ-loop
-loop-again c = (omega arith, below-more _ _ (c .before .before .before .loop .inv .1) (ltb-true _ _ (c .if1 .taken)))
+loop-again c = (omega arith, below-more _ _ (c .before .before .before .before .loop .inv .1) (ltb-true _ _ (c .if1 .taken)))
 
 returns : tie.Need-returns Inv-loop μ-loop
-returns c = (omega arith, (c .before .before .before .loop .inv .1, λ b. ltb-false _ _ (c .if1 .left)))
+returns c = (omega arith, (c .before .before .before .before .loop .inv .1, λ b. ltb-false _ _ (c .if1 .left)))
 
 returns-2 : tie.Need-returns-2 Inv-loop μ-loop
 returns-2 c = (omega arith, (c .before .loop .inv .1, λ b. absurd (omega arith)))

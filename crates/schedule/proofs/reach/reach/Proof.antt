@@ -7,7 +7,7 @@ use native.Mathlib.Numerals.{add-one}
 use native.Mathlib.Omega.{arith}
 use lib.ListN.{getD}
 use Rattle.word.specs.Bytes.{words}
-use Rattle.schedule.specs.Part.{nextsIn}
+use Rattle.schedule.specs.Rule.{nextsAt}
 use Rattle.schedule.specs.Near.{near, Reaches}
 use Rattle.schedule.proofs.Few.{few-in}
 use Rattle.schedule.proofs.Reaching.{reach-start, first, Widening, begin, passed-by, widened, ended}
@@ -15,14 +15,14 @@ use Rattle.schedule.proofs.reach.reach.Statement.{statement}
 use Rattle.schedule.proofs.reach.reach.Tie as tie
 
 abbrev Inv-places : tie.InvT-places
-Inv-places program most places₀ steps₀ from count₀ k i₀ places steps count i = Widening (nextsIn (words program)) from k i (near places steps count)
+Inv-places program most places₀ steps₀ from count₀ k i₀ places steps count i = Widening (nextsAt (words program)) from k i (near places steps count)
 
 abbrev μ-places : tie.MeasureT-places
 μ-places program most places₀ steps₀ from count₀ k i₀ places steps count i = 256 - i
 
 abbrev Inv-levels : tie.InvT-levels
 Inv-levels program most places₀ steps₀ from count₀ k₀ places steps count k =
-    (1 ≤ k) × (k ≤ most) × Reaches (nextsIn (words program)) from k (near places steps count)
+    (1 ≤ k) × (k ≤ most) × Reaches (nextsAt (words program)) from k (near places steps count)
 
 abbrev μ-levels : tie.MeasureT-levels
 μ-levels program most places₀ steps₀ from count₀ k₀ places steps count k = most - k
@@ -30,7 +30,8 @@ abbrev μ-levels : tie.MeasureT-levels
 expand-requires : tie.Need-expand-requires Inv-places μ-places Inv-levels μ-levels
 expand-requires c κs =
     let start = c .before .before .before in
-    (start .pre .0, (start .pre .1 .0, (record { places = refl; steps = refl; few = omega arith; ascending = λ i j a l. absurd (not-suc-le-zero l); low = λ i l. absurd (not-suc-le-zero l) }, omega arith)))
+    let size = start .pre .1 .1 .1 in
+    (start .pre .1 .0, (record { places = size .0; steps = size .1; few = omega arith; ascending = λ i j a l. absurd (not-suc-le-zero l); low = λ i l. absurd (not-suc-le-zero l) }, omega arith))
 
 levels-holds : tie.Need-levels-holds Inv-places μ-places Inv-levels μ-levels
 levels-holds c = (omega arith, omega arith, first _ _ refl (c .expand .ensures))
@@ -44,22 +45,19 @@ room c =
 
 expand-requires-2 : tie.Need-expand-requires-2 Inv-places μ-places Inv-levels μ-levels
 expand-requires-2 c κs =
-    let turn = c .before .before .before in
+    let turn = c .before .before .before .before .before in
     let start = turn .before .before .before .before .before .before .before .before in
     let t = turn .before .places in (
-      start .pre .0,
-      (
-        reach-start (start .pre .0) (start .args .p .0) (start .pre .1 .0) (getD (t .steps) (t .i) 0) _ (t .inv .sound (t .i) (turn .places-test .taken) .1),
-        (rw add-one (t .inv .ordered), room turn),
-      ),
+      reach-start (start .pre .0) (start .args .p .0) (start .pre .1 .0) (getD (t .steps) (t .i) 0) _ (t .inv .sound (t .i) (turn .places-test .taken) .1),
+      (rw add-one (t .inv .ordered), room turn),
     )
 
 places-again : tie.Need-places-again Inv-places μ-places Inv-levels μ-levels
 places-again c =
-    let t = c .before .before .places in
+    let t = c .before .before .before .places in
     rw add-one
     (⊎-elim
-    (λ w. rw (w .4, w .5, w .6) (widened _ _ _ _ (t .inv) (c .before .places-test .taken) (w .0 .taken) (rw add-one at (w .3 .ensures))))
+    (λ w. rw (w .5, w .6, w .7) (widened _ _ _ _ (t .inv) (c .before .before .places-test .taken) (w .0 .taken) (rw add-one at (w .4 .ensures))))
     (λ w. rw (w .1, w .2, w .3) (passed-by _ _ _ (t .inv) (w .0 .left)))
     (c .if1 .came))
 
@@ -87,12 +85,12 @@ reach-spec =
     (λ c. begin _ _ _ (c .before .levels .inv .2))
     (λ c. omega (arith, room c))
     (λ c. omega (arith, room c))
-    (λ c. omega (arith, room (c .before)))
-    (λ c. omega (arith, room (c .before)))
+    (λ c. omega (arith, room (c .before .before)))
+    (λ c. omega (arith, room (c .before .before)))
     (λ c. omega arith)
     expand-requires-2
-    (λ c. omega (arith, room (c .before)))
-    (λ c. omega (arith, room (c .before)))
+    (λ c. omega (arith, room (c .before .before)))
+    (λ c. omega (arith, room (c .before .before)))
     places-again
     (λ c. omega arith)
     (λ c. omega arith)

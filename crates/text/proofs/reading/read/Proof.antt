@@ -3,18 +3,18 @@ use mathlib.Core.Path.{_≡_, sym, ap, _∙_}
 use mathlib.Core.List.{List}
 use Prim.Native.Nat.{ℕ, _*_, _≤_}
 use lib.ListN.{length}
-use Rattle.word.specs.declared.Found.{Found}
-use Rattle.word.specs.declared.Found.the-variants.{At}
+use Rattle.text.specs.declared.reading.Upto.{Upto}
+use Rattle.text.specs.declared.reading.Upto.the-variants.{At}
 use Rattle.text.specs.Lines.{Line, fromFirst}
 use Rattle.text.specs.Items.{lineHeld, Within}
 use Rattle.text.proofs.reading.read.Statement.{statement}
 use Rattle.text.proofs.reading.read.Tie as tie
 
 -- what line 1 holds, by what was found
-known : (table text : List ℕ) {f g : Found} {l : Line} → f ≡ g → lineHeld f table text ≡ l → fromFirst (lineHeld g table text) ≡ fromFirst l
-known table text e h = ap (λ (x : Found). fromFirst (lineHeld x table text)) (sym e) ∙ ap fromFirst h
+known : (table text : List ℕ) {f g : Upto} {l : Line} → f ≡ g → lineHeld f table text ≡ l → fromFirst (lineHeld g table text) ≡ fromFirst l
+known table text e h = ap (λ (x : Upto). fromFirst (lineHeld x table text)) (sym e) ∙ ap fromFirst h
 
-within : (text : List ℕ) {f : Found} {n : ℕ} → f ≡ At n → Within f text → n * 3 ≤ length text
+within : (text : List ℕ) {f : Upto} {n : ℕ} → f ≡ At n → Within f text → n * 3 ≤ length text
 within text e h = rw e at h
 
 first-line-requires : tie.Need-first-line-requires

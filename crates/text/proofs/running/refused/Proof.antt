@@ -4,24 +4,24 @@ use mathlib.Core.Bool.{Bool, true, false}
 use mathlib.Core.List.{List}
 use Prim.Native.Nat.{ℕ}
 use native.Mathlib.Omega.{arith}
-use Rattle.loader.specs.Broken.{programBreaks}
+use Rattle.loader.specs.Broken.{badProgramLength}
 use Rattle.loader.specs.Load.{_otherwise_, refusedIf, loadedWith}
 use Rattle.loader.specs.Answer.{loadAnswer}
 use Rattle.loader.specs.declared.Answer.{Answer}
 use Rattle.loader.specs.declared.Loaded.{Loaded}
 use Rattle.loader.specs.declared.Loaded.the-variants.{Good, Refused}
-use Rattle.loader.specs.declared.Refusal.the-variants.{Program, Memory}
+use Rattle.loader.specs.declared.Refusal.the-variants.{ProgramLength, MemoryLength}
 use Rattle.text.specs.Output.{tooMuch, printedOf}
 use Rattle.text.proofs.Outputs.{alone}
 use Rattle.text.proofs.running.refused.Statement.{statement}
 use Rattle.text.proofs.running.refused.Tie as tie
 
 -- a memory that is too long is always refused
-never-good : (t : Bool) → refusedIf t Program otherwise Refused Memory ≡ Good → ⊥
+never-good : (t : Bool) → refusedIf t ProgramLength otherwise Refused MemoryLength ≡ Good → ⊥
 never-good true e = let z : _≡_ {A = ℕ} 0 1 = cc in omega arith
 never-good false e = let z : _≡_ {A = ℕ} 0 1 = cc in omega arith
 
-answered : (table program : List ℕ) {a : Answer} {s l : Loaded} → s ≡ refusedIf (programBreaks program) Program otherwise Refused Memory
+answered : (table program : List ℕ) {a : Answer} {s l : Loaded} → s ≡ refusedIf (badProgramLength program) ProgramLength otherwise Refused MemoryLength
     → l ≡ loadedWith s table program → a ≡ loadAnswer l → a ≡ loadAnswer (tooMuch table program)
 answered table program e f g = g ∙ ap loadAnswer (f ∙ ap (λ (x : Loaded). loadedWith x table program) e)
 
@@ -29,7 +29,7 @@ sizes-requires : tie.Need-sizes-requires
 sizes-requires c κs = search needs
 
 load-with-requires : tie.Need-load-with-requires
-load-with-requires c κs = λ g. absurd (never-good (programBreaks (c .before .before .before .before .before .args .program .now)) (sym (c .sizes .ensures) ∙ g))
+load-with-requires c κs = λ g. absurd (never-good (badProgramLength (c .before .before .before .before .before .args .program .now)) (sym (c .sizes .ensures) ∙ g))
 
 of-load-requires : tie.Need-of-load-requires
 of-load-requires c κs = search needs

@@ -1,7 +1,7 @@
 //! Calls of check: programs that load, about half of them refused with 9.
 
 use super::build::{self, Style};
-use super::draft::{Draft, Part, NOP};
+use super::draft::{Draft, Part, NOP, STOP};
 use super::random::Random;
 use super::{loads, schedule, tables};
 use crate::requests::Program;
@@ -10,8 +10,11 @@ use second::table::Table;
 
 pub fn call(random: &mut Random) -> Program {
     // check gives refusals 1 to 8 as load does.
-    if random.percent(5) {
+    if random.percent(6) {
         return loads::call(random);
+    }
+    if random.percent(1) {
+        return astride(random);
     }
     let refused = random.percent(52);
     let mut tried = 0;
@@ -137,6 +140,31 @@ fn producer(random: &mut Random, table: &Table, register: Register) -> Option<(u
             (count > 0).then_some((cluster, opcode << 24 | number << 18, delay))
         }
     }
+}
+
+/// A producer with a consumer on each way of a branch, at places around 256.
+fn astride(random: &mut Random) -> Program {
+    let mut table = tables::roomy(random);
+    let at = table.len() - 3;
+    table[at] = random.between(2, 8) as u8;
+    let idle = |count: u32| (0..count).map(|_| vec![Part::new(true, NOP)]);
+    let (before, between) = (random.between(1, 300), random.between(0, 300));
+    let reads = vec![Part::new(true, 1 << 24 | 2 << 18 | 1 << 12)];
+    let mut instructions: Vec<Vec<Part>> = idle(before).collect();
+    // The multiplication and the branch, then the consumer of the way straight on.
+    let branch = Part { opens: false, word: 62 << 24, aim: Some(0) };
+    instructions.push(vec![Part::new(true, 24 << 24 | 1 << 18), branch]);
+    instructions.push(reads.clone());
+    instructions.extend(idle(between));
+    let far = if random.percent(50) { random.below(before) as usize } else { instructions.len() };
+    if far < instructions.len() {
+        instructions[far] = reads;
+    } else {
+        instructions.push(reads);
+    }
+    instructions[before as usize][1].aim = Some(far);
+    instructions.push(vec![Part::new(true, STOP)]);
+    Program { table, program: Draft { instructions }.bytes(), room: random.bytes(12) }
 }
 
 /// A long stretch of nops somewhere: far places, the same rule.

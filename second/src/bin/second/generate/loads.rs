@@ -41,6 +41,9 @@ pub fn call(random: &mut Random) -> Program {
     if !matches!(aims[0], Aim::Good) && random.percent(22) {
         aims.extend((0..random.between(1, 2)).map(|_| random.weighted(&AIMS)));
     }
+    if matches!(aims[0], Aim::Good) && random.percent(5) {
+        of_counts::fill(random, &mut case);
+    }
     if matches!(aims[0], Aim::Good) && random.percent(40) {
         of_counts::fit_exactly(&mut case);
     }
@@ -76,14 +79,17 @@ pub fn good_case(random: &mut Random) -> Case {
     let most = random.weighted(&[(1, 1), (6, 6), (6, 12), (1, 40)]);
     let count = random.between(1, most) as usize;
     let mut draft = build::program(random, &parsed, &style, count);
-    if random.below(250) == 0 {
-        fill(&mut draft, FULL);
+    // Places above 255, and now and then as many as there may be.
+    match random.below(250) {
+        0 => lengthen(&mut draft, FULL),
+        1..=6 => lengthen(&mut draft, random.between(257, 600) as usize),
+        _ => {}
     }
     Case { table, draft }
 }
 
 /// Puts nops before the last instruction until there are so many syllables.
-fn fill(draft: &mut Draft, syllables: usize) {
+fn lengthen(draft: &mut Draft, syllables: usize) {
     while draft.syllables() < syllables {
         let last = draft.instructions.len() - 1;
         draft.insert(last, vec![Part::new(true, NOP)]);
@@ -94,21 +100,20 @@ fn fill(draft: &mut Draft, syllables: usize) {
 fn sizes(random: &mut Random, call: &mut Program) {
     let stop = (3 << 30 | STOP).to_be_bytes();
     if random.percent(45) {
-        let size = random.pick(&[0, 11, 13]);
+        let size = random.pick(&[0, 11, 13, 24]);
         call.room = random.bytes(size);
     }
     if random.percent(65) {
         match random.below(12) {
             0 | 1 => call.program.clear(),
-            2 => call.program.truncate(1),
-            3 => call.program.truncate(3),
+            2 | 3 => call.program.truncate(random.between(1, 3) as usize),
             4 => {
                 call.program.pop();
             }
             5 => call.program.push(0),
             6 => call.program.extend([0xC0, 4]),
             7 => call.program = stop.repeat(FULL),
-            8 => call.program = [stop.repeat(FULL), vec![0xC0]].concat(),
+            8 => call.program = [stop.repeat(FULL), stop[..random.between(1, 3) as usize].to_vec()].concat(),
             9 => call.program = stop.repeat(FULL + 1),
             10 => call.program = stop.repeat(FULL + 4),
             _ => call.program = stop.to_vec(),

@@ -58,6 +58,8 @@ fn repeat(draft: &mut Draft) {
 /// A text of the right form whose memory, table or program is refused, or nearly.
 fn refused(random: &mut Random) -> Said {
     let mut said = good(random);
+    // With another memory or program a run may not end.
+    said.n = said.n.min(100);
     let which = random.between(1, 7);
     if which & 1 != 0 {
         said.memory = random.pick(&[16_384, 16_385, 16_385, 65_536, 0x8000_0000, 0xFFFF_FFFF]);
@@ -67,7 +69,6 @@ fn refused(random: &mut Random) -> Said {
         let to_words = |bytes: &[u8]| u32::from_be_bytes([bytes[0], bytes[1], bytes[2], bytes[3]]);
         said.table = call.table;
         said.words = call.program.chunks_exact(4).map(to_words).collect();
-        said.n = said.n.min(100);
     }
     if which == 4 {
         let mut case = Case { table: said.table, draft: Draft::default() };

@@ -1,19 +1,16 @@
 //! What kind of clash check found.
 
 use super::roles::roles;
-use super::Tally;
-use second::check::{self, Clash};
-use second::program::Program;
-use second::syllable::Register;
+use super::ways::{self, Nexts};
+use super::{class, Tally};
+use second::check::Clash;
+use second::program::{Instruction, Program};
+use second::syllable::{Class, Register};
 use second::table::Table;
 use std::cmp::Ordering;
+use std::collections::BTreeSet;
 
-pub fn checked(tally: &mut Tally, table: &Table, program: &Program) {
-    let Some(clash) = check::check(table, program) else {
-        let results = program.instructions.iter().flat_map(|instruction| instruction.results(table));
-        let longest = results.map(|(_, delay)| delay).max().unwrap_or(0);
-        return tally.count(format!("00 passes, longest delay {longest}"));
-    };
+pub fn refused(tally: &mut Tally, table: &Table, program: &Program, clash: Clash) {
     let (producer, consumer) = (clash.producer, clash.consumer);
     let way = match consumer.cmp(&producer) {
         Ordering::Less => "consumer below",
@@ -21,58 +18,89 @@ pub fn checked(tally: &mut Tally, table: &Table, program: &Program) {
         Ordering::Greater => "consumer above",
     };
     tally.count(format!("09 {way}"));
-    if !reached(program).contains(&producer) {
+    tally.count(format!("09 producer at {}", class(u64::from(producer), &[0, 255])));
+    tally.count(format!("09 consumer at {}", class(u64::from(consumer), &[0, 255])));
+    if !from_the_start(program).contains(&producer) {
         tally.count("09 producer cannot be reached".to_string());
     }
-    let steps = fewest_steps(program, producer, consumer);
-    for (register, delay) in shared(table, program, clash) {
-        if steps < delay {
-            let kind = if matches!(register, Register::Branch { .. }) { "branch" } else { "general" };
-            tally.count(format!("09 {kind} register, delay {delay}, {steps} steps on"));
-            let producer = program.starting_at(producer).expect("a producer");
-            let consumer = program.starting_at(consumer).expect("a consumer");
-            // A role that stands alone decides; others might hide that it is not looked at.
-            if let [role] = roles(consumer, register)[..] {
-                tally.count(format!("09 consumer only by {role}"));
-            }
-            for role in roles(producer, register).iter().filter(|role| role.contains("destination")) {
-                tally.count(format!("09 producer by {role}"));
-            }
+    let producer = program.starting_at(producer).expect("a producer");
+    let consumer = program.starting_at(consumer).expect("a consumer");
+    others(tally, table, program, producer, consumer);
+    let steps = fewest_steps(program, producer, consumer.place);
+    let shared = producer.results(table).into_iter().filter(|(register, _)| ways::touches(consumer, *register));
+    for (register, delay) in shared.filter(|(_, delay)| steps < *delay) {
+        let kind = if matches!(register, Register::Branch { .. }) { "branch" } else { "general" };
+        tally.count(format!("09 {kind} register, delay {delay}, {steps} steps on"));
+        if matches!(register, Register::Branch { number: 0, .. }) {
+            tally.count("09 branch register 0".to_string());
         }
+        // A role that stands alone decides; others might hide that it is not looked at.
+        if let [role] = roles(consumer, register)[..] {
+            tally.count(format!("09 consumer only by {role}"));
+        }
+        for role in roles(producer, register).iter().filter(|role| role.contains("destination")) {
+            tally.count(format!("09 producer by {role}"));
+        }
+        tally.count(format!("09 by the delay {}", delay_name(producer, register)));
+    }
+}
+
+/// What the lowest pair was chosen from, and the ways that lead to it.
+fn others(tally: &mut Tally, table: &Table, program: &Program, producer: &Instruction, consumer: &Instruction) {
+    let consumers = ways::consumers(table, program, producer, ways::all);
+    let over = consumers.iter().filter(|&&place| place > 255).count();
+    if consumers.len() > 1 {
+        tally.count("09 several consumers".to_string());
+    }
+    if over > 0 && over < consumers.len() {
+        tally.count("09 consumers on both sides of place 256".to_string());
+    }
+    if consumers.iter().any(|place| place % 256 < consumer.place % 256) {
+        tally.count("09 a higher consumer with a lower last byte".to_string());
+    }
+    let steps = |place: &u32| fewest_steps(program, producer, *place);
+    if consumers.iter().any(|place| steps(place) < steps(&consumer.place)) {
+        tally.count("09 the lowest consumer is not the nearest".to_string());
+    }
+    let mut later = program.instructions.iter().filter(|other| other.place > producer.place);
+    if later.any(|other| !ways::consumers(table, program, other, ways::all).is_empty()) {
+        tally.count("09 several producers".to_string());
+    }
+    let wrong_ways: [(Nexts, &str); 2] = [(ways::taken, "following one"), (ways::passed_by, "target")];
+    for (nexts, name) in wrong_ways {
+        if !ways::consumers(table, program, producer, nexts).contains(&consumer.place) {
+            tally.count(format!("09 only by a branch's {name}"));
+        }
+    }
+}
+
+/// The delay by which the result is late.
+fn delay_name(producer: &Instruction, register: Register) -> &'static str {
+    if matches!(register, Register::Branch { .. }) {
+        return "CMPB";
+    }
+    let writer =
+        producer.syllables.iter().find(|placed| placed.syllable.destinations(placed.cluster).contains(&register));
+    match writer.expect("a writer").syllable.class() {
+        Class::Alu => "ALU",
+        Class::Mul => "MUL",
+        Class::Mem => "LOAD",
+        _ => "COPY",
     }
 }
 
 /// The places that can be reached from place 0.
-fn reached(program: &Program) -> Vec<u32> {
-    let mut reached = vec![0];
-    let mut next = 0;
-    while next < reached.len() {
-        for place in program.starting_at(reached[next]).expect("a loaded place").nexts() {
-            if !reached.contains(&place) {
-                reached.push(place);
-            }
-        }
-        next += 1;
+fn from_the_start(program: &Program) -> BTreeSet<u32> {
+    let mut reached = BTreeSet::from([0]);
+    let mut new = vec![0];
+    while let Some(place) = new.pop() {
+        let nexts = program.starting_at(place).expect("a loaded place").nexts();
+        new.extend(nexts.into_iter().filter(|&next| reached.insert(next)));
     }
     reached
 }
 
-/// The producer's results, with their delays, that the consumer reads or writes.
-fn shared(table: &Table, program: &Program, clash: Clash) -> Vec<(Register, u32)> {
-    let producer = program.starting_at(clash.producer).expect("a producer");
-    let consumer = program.starting_at(clash.consumer).expect("a consumer");
-    let touched = [consumer.reads(), consumer.destinations()].concat();
-    producer.results(table).into_iter().filter(|(register, _)| touched.contains(register)).collect()
-}
-
-fn fewest_steps(program: &Program, from: u32, to: u32) -> u32 {
-    let mut steps = 0;
-    let mut at = vec![from];
-    loop {
-        steps += 1;
-        at = at.iter().flat_map(|&place| program.starting_at(place).expect("a loaded place").nexts()).collect();
-        if at.contains(&to) || steps > 8 {
-            return steps;
-        }
-    }
+fn fewest_steps(program: &Program, from: &Instruction, to: u32) -> u32 {
+    let sets = ways::reached(program, from.place, 8, ways::all);
+    (1..=8).find(|&steps| sets[steps as usize].contains(&to)).unwrap_or(9)
 }

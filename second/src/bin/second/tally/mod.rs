@@ -1,13 +1,17 @@
 //! Counts how often each number, place kind and cause occurred.
 
 mod clashes;
+mod loads;
+mod passes;
 mod refusals;
 mod roles;
 mod runs;
 mod texts;
+mod ways;
 
 use crate::requests::{Program, Request};
-use refusals::refused;
+use second::answer::Refusal;
+use second::check;
 use second::load::{self, Lengths};
 use std::collections::BTreeMap;
 
@@ -32,29 +36,21 @@ impl Tally {
         self.calls += 1;
         match request {
             Request::Values { .. } => self.count("values".to_string()),
-            Request::Load(call) => self.loaded(call),
+            Request::Load(call) => loads::loaded(self, call),
             Request::Check(call) => self.checked(call),
             Request::Run(call) => runs::ran(self, call),
             Request::Text(input) => texts::read(self, input),
         }
     }
 
-    fn loaded(&mut self, call: &Program) {
-        match load::load(&call.table, &call.program, Lengths::of_load(call.room.len())) {
-            Err(refusal) => self.count(refused(refusal, &call.program)),
-            Ok((table, program)) => {
-                self.count(format!("00 loads, C = {}", table.clusters.len()));
-                for placed in program.instructions.iter().flat_map(|instruction| &instruction.syllables) {
-                    self.count(format!("syllables loaded, opcode {:02}", placed.syllable.opcode()));
-                }
-            }
-        }
-    }
-
     fn checked(&mut self, call: &Program) {
         match load::load(&call.table, &call.program, Lengths::of_load(call.room.len())) {
-            Err(refusal) => self.count(format!("{:02} as in load", refusal.number)),
-            Ok((table, program)) => clashes::checked(self, &table, &program),
+            Err(Refusal { number, place, cause }) if number == 2 => self.count(format!("02 {cause}, place {place}")),
+            Err(Refusal { number, cause, .. }) => self.count(format!("{number:02} {cause}")),
+            Ok((table, program)) => match check::check(&table, &program) {
+                Some(clash) => clashes::refused(self, &table, &program, clash),
+                None => passes::passed(self, &table, &program),
+            },
         }
     }
 
@@ -64,5 +60,15 @@ impl Tally {
         for (key, count) in &self.counts {
             println!("{count:>9}  {:>7.2}%  {key}", 100.0 * *count as f64 / self.calls.max(1) as f64);
         }
+    }
+}
+
+/// The first limit a number does not exceed.
+fn class(number: u64, limits: &[u64]) -> String {
+    match limits.iter().position(|&limit| number <= limit) {
+        None => format!("over {}", limits[limits.len() - 1]),
+        Some(0) => format!("{}", limits[0]),
+        Some(index) if limits[index] == limits[index - 1] + 1 => format!("{}", limits[index]),
+        Some(index) => format!("up to {}", limits[index]),
     }
 }

@@ -2,7 +2,7 @@
 
 use super::refusals::refused;
 use super::roles::roles;
-use super::Tally;
+use super::{class, Tally};
 use crate::requests::Run;
 use second::answer::Refusal;
 use second::load::{load, Lengths, IMAGE_SIZE, MOST_MEMORY, ROOM_SIZE};
@@ -72,7 +72,7 @@ pub fn ran(tally: &mut Tally, call: &Run) {
 /// The number and cause of a refusal; for 2 also which of its four cases held together, for a room that stays unwritten why.
 fn turned_away(tally: &mut Tally, call: &Run, refusal: Refusal) {
     if refusal.number == 2 {
-        tally.count(refused(refusal, &call.program));
+        tally.count(refused(refusal, &call.table, &call.program));
         let bad_program = refusal.place == 0;
         let cases = [
             (bad_program, "program"),
@@ -108,16 +108,6 @@ fn busy_roles(instruction: &Instruction, state: &State) -> Vec<&'static str> {
     roles.sort();
     roles.dedup();
     roles
-}
-
-/// The first limit a number does not exceed.
-fn class(number: u64, limits: &[u64]) -> String {
-    match limits.iter().position(|&limit| number <= limit) {
-        None => format!("over {}", limits[limits.len() - 1]),
-        Some(0) => format!("{}", limits[0]),
-        Some(index) if limits[index] == limits[index - 1] + 1 => format!("{}", limits[index]),
-        Some(index) => format!("up to {}", limits[index]),
-    }
 }
 
 /// The first two bad accesses in their order, and whether stores share a byte besides.

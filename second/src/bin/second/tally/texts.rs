@@ -14,7 +14,8 @@ pub fn read(tally: &mut Tally, input: &[u8]) {
             };
             tally.count(format!("16 {}, {line}", refusal.cause));
         }
-        Err(refusal) if refusal.number <= 2 => tally.count(refused(refusal, &[])),
+        Err(refusal) if refusal.number == 1 => tally.count(format!("01 {}", refusal.cause)),
+        Err(refusal) if refusal.number == 2 => tally.count(refused(refusal, &[], &[])),
         Err(refusal) => tally.count(format!("{:02} as in load", refusal.number)),
         Ok((answer, state)) => {
             let landing = state.cells.iter().any(|cell| cell.landing > 0);

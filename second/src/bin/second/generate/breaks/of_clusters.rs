@@ -34,6 +34,14 @@ pub const BREAKS: [Break; 9] = [
     |random, case| control_outside(random, case, 62),
     |random, case| control_outside(random, case, 63),
     |random, case| {
+        // Half the time in an instruction that opens any of the clusters.
+        if random.percent(50) {
+            let opened = random.between(1, case.c() as u32);
+            let at = random.index(case.draft.instructions.len());
+            case.draft.insert(at, (0..opened).map(|_| Part::new(true, NOP)).collect());
+            put_copy(random, case, at, opened as usize - 1, opened - 1);
+            return;
+        }
         let (instruction, part) = any_part(random, &case.draft);
         let own = clusters(&case.draft.instructions[instruction])[part];
         put_copy(random, case, instruction, part, own as u32);

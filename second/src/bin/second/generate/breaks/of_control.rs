@@ -4,7 +4,7 @@ use super::{Break, Case};
 use crate::generate::draft::{Part, NOP, STOP};
 use crate::generate::random::Random;
 
-pub const BREAKS: [Break; 11] = [
+pub const BREAKS: [Break; 12] = [
     |random, case| target(random, case, Where::Inside),
     |random, case| target(random, case, Where::Inside),
     |random, case| target(random, case, Where::End),
@@ -22,6 +22,17 @@ pub const BREAKS: [Break; 11] = [
         if random.percent(40) && case.width(0) > 1 {
             last.insert(0, Part::new(true, NOP));
             last[1].opens = false;
+        }
+        case.draft.instructions.push(last);
+    },
+    |random, case| {
+        // The last instruction a branch with a bad target, at its first syllable or behind it.
+        let many = case.draft.syllables() as u32;
+        let word = random.pick(&[62, 63]) << 24 | random.below(8) << 21 | (many + random.between(1, 9));
+        let mut last = vec![Part::new(true, word)];
+        if random.percent(70) {
+            last = vec![Part::new(true, NOP), Part::new(false, word)];
+            case.table[1] = case.table[1].max(2);
         }
         case.draft.instructions.push(last);
     },

@@ -5,7 +5,7 @@ use crate::generate::draft::{clusters, Part, NOP, STOP};
 use crate::generate::random::Random;
 use second::syllable::{Class, Syllable};
 
-pub const BREAKS: [Break; 11] = [
+pub const BREAKS: [Break; 13] = [
     |random, case| {
         // Too many syllables by nops alone.
         let (instruction, part) = any_part(random, &case.draft);
@@ -23,6 +23,8 @@ pub const BREAKS: [Break; 11] = [
     |random, case| tighten(random, case, 2),
     |random, case| tighten(random, case, 3),
     |random, case| tighten(random, case, 4),
+    crowd,
+    crowd,
     copies,
     copies,
     copies,
@@ -88,34 +90,59 @@ pub fn fit_exactly(case: &mut Case) {
     }
 }
 
-/// Adds an instruction of copies, too many for a cluster they go to, come from, or both.
+/// Adds an instruction with one more of a class than some count, from 0 to the greatest, which the table then has.
+fn crowd(random: &mut Random, case: &mut Case) {
+    let (which, opcode, most) = random.pick(&[(1, 1, 7), (2, 24, 4), (3, 52, 4)]);
+    let limit = random.between(0, most);
+    let cluster = random.index(case.c());
+    put(random, case, cluster, opcode, limit + 1);
+    case.table[1 + 5 * cluster + which] = limit as u8;
+}
+
+/// Adds an instruction with as many additions as a cluster can ever take, or one less; it still loads.
+pub fn fill(random: &mut Random, case: &mut Case) {
+    let cluster = random.index(case.c());
+    let count = random.pick(&[7, 8]);
+    put(random, case, cluster, 1, count);
+}
+
+/// An instruction with so many syllables of an opcode in one cluster, which gets room for them.
+fn put(random: &mut Random, case: &mut Case, cluster: usize, opcode: u32, count: u32) {
+    let mut parts: Vec<Part> = (0..cluster).map(|_| Part::new(true, NOP)).collect();
+    parts.extend((1..=count).map(|t| Part::new(t == 1, opcode << 24 | t << 18)));
+    case.table[1 + 5 * cluster..6 + 5 * cluster].copy_from_slice(&[8, 8, 4, 4, 4]);
+    let at = random.index(case.draft.instructions.len());
+    case.draft.insert(at, parts);
+}
+
+/// Adds an instruction of copies, one too many for a cluster they go to, come from, or both; each other cluster has room, if it can.
 fn copies(random: &mut Random, case: &mut Case) {
     let c = case.c();
     if c < 2 {
         return;
     }
-    let to = random.index(c);
-    let from = (to + 1 + random.index(c - 1)) % c;
-    let beyond = (from + 1 + random.index(c - 1)) % c;
-    let copy = |t: u32, source: usize| 60 << 24 | t << 18 | source as u32;
-    let mut words = vec![vec![NOP]; c];
-    let count = random.between(1, 2);
-    words[to] = (1..=count).map(|t| copy(t, from)).collect();
-    let short = match random.below(3) {
-        0 => to,
-        1 => from,
-        _ => {
-            // The source is itself a destination: neither way alone is too much.
-            words[from] = (1..=count).map(|t| copy(t, beyond)).collect();
-            from
-        }
+    let short = random.index(c);
+    let limit = random.between(0, 4) as usize;
+    let to_it = match random.below(3) {
+        0 => limit + 1,
+        1 => 0,
+        _ => 1 + random.index(limit.max(1)),
     };
-    let both_ways = words[from].len() > 1 || words[from][0] != NOP;
-    for cluster in 0..c {
-        case.table[1 + 5 * cluster] = case.table[1 + 5 * cluster].max(2);
+    let other = |index: usize| (short + 1 + index % (c - 1)) % c;
+    let copy = |t: usize, source: usize| 60 << 24 | (t as u32) << 18 | source as u32;
+    let mut words = vec![Vec::new(); c];
+    words[short] = (0..to_it).map(|index| copy(index + 1, other(index))).collect();
+    for index in to_it..limit + 1 {
+        words[other(index)].push(copy(index + 1, short));
+    }
+    for (cluster, words) in words.iter_mut().enumerate() {
+        if words.is_empty() {
+            words.push(NOP);
+        }
+        case.table[1 + 5 * cluster] = 8;
         case.table[5 + 5 * cluster] = 4;
     }
-    case.table[5 + 5 * short] = if both_ways { count as u8 } else { count as u8 - 1 };
+    case.table[5 + 5 * short] = limit as u8;
     let parts: Vec<Part> = words
         .iter()
         .flat_map(|cluster| cluster.iter().enumerate().map(|(index, &word)| Part::new(index == 0, word)))

@@ -49,7 +49,12 @@ fn double(random: &mut Random, case: &mut Case, named: &[Named; 2], register_0: 
     let mut words = Vec::new();
     for (index, part) in named.iter().enumerate() {
         let opcode = match part.opcode {
-            1 => random.pick(&[1, 7, 15, 22, 30, 39, 50, 51, 24, 29, 52, 56, 60]),
+            1 => match random.between(1, 46) {
+                index @ 1..=22 => index,
+                index @ 23..=38 => index + 1,
+                index @ 39..=45 => index + 11,
+                _ => 60,
+            },
             40 => random.between(40, 49),
             opcode => opcode,
         };

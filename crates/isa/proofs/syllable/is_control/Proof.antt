@@ -1,8 +1,0 @@
--- A stop, or one of a range.
-use borrow.Author.Needs.{needs}
-use Rattle.isa.proofs.Steps.{joins}
-use Rattle.isa.proofs.syllable.is_control.Statement.{statement}
-use Rattle.isa.proofs.syllable.is_control.Tie as tie
-
-pub is-control-spec : {M : Type 1} → statement M
-is-control-spec = tie.close (tie.spec (λ c κs. search needs) (λ c κs. search needs) (λ c κs. search needs) (λ c. search joins))

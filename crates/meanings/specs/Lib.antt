@@ -1,0 +1,5 @@
+pub mod Arith
+pub mod Value
+pub mod Integer
+pub mod Laws
+pub mod Settled

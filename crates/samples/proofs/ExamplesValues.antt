@@ -1,0 +1,55 @@
+-- Document 01's checked values, by computing. Only the files of examples open an operation's text.
+use mathlib.Core.Path.{_≡_, refl, ap, _∙_}
+use Prim.Native.Nat.{ℕ}
+use Rattle.word.specs.Bytes.{wordAt}
+use Rattle.ops.specs.Value.{value, carry}
+use Rattle.isa.specs.Syllable.{formatOf}
+use Rattle.isa.specs.Control.{wayOf}
+use Rattle.isa.specs.Zero.{badBits}
+use Rattle.isa.specs.Decode.{decode}
+use Rattle.isa.specs.Table.{badTable, tableOf}
+use Rattle.loader.specs.Broken.{noEndAt, badBitsAt, badClusterAt, tooWideAt, twoWritesAt, badControlAt}
+use Rattle.loader.specs.Load.{testedBy, loadedWith}
+use Rattle.machine.specs.Instruction.{acts}
+use Rattle.machine.specs.Image.{imageOffset, registersIn, imageOf}
+use Rattle.machine.specs.Valid.{badState}
+use Rattle.call.specs.Run.{Call, Outcome, ranOf}
+use Rattle.demands.proofs.Taken.{Taken, leftBy, taken-runs}
+use Rattle.samples.specs.Wrong.{room}
+use Rattle.samples.specs.Checked.{swapping, leftIn, Checked}
+use Rattle.samples.proofs.Examples.{two-on, three-on}
+
+-- the swap loads and its state is valid, so what it leaves is the machine's image: nothing of it is computed but the two registers
+swap : Call
+swap = swapping 0x33333333 0x44444444
+
+taken : Taken swap
+unfolding swap registersIn badState loadedWith testedBy noEndAt badBitsAt badClusterAt tooWideAt twoWritesAt badControlAt badTable tableOf badBits wayOf formatOf decode
+taken = record { good = refl; valid = refl }
+
+left : (r : ℕ) → leftIn r ≡ wordAt (imageOffset r) (leftBy (ranOf swap) room .state)
+unfolding swap
+left r = ap (λ (o : Outcome). wordAt (imageOffset r) (o .state)) (taken-runs swap taken)
+
+swapped : (let image = leftBy (ranOf swap) room .state in (wordAt (imageOffset 3) image ≡ 0x44444444) × (wordAt (imageOffset 4) image ≡ 0x33333333))
+unfolding swap value acts registersIn imageOf formatOf decode tableOf
+swapped = (refl, refl)
+
+pub checked : Checked
+unfolding value carry
+checked =
+    record {
+      add = refl;
+      sub = refl;
+      andc = refl;
+      mpyll = refl;
+      mpylhu = refl;
+      shr = refl;
+      shl = refl;
+      addcg = (refl, refl);
+      sh4add = refl;
+      maxu = refl;
+      swap = (left 3 ∙ swapped .0, left 4 ∙ swapped .1);
+      two-on = two-on;
+      three-on = three-on;
+    }

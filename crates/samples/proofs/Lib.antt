@@ -1,0 +1,7 @@
+pub mod Wrongs
+pub mod Left
+pub mod Examples
+pub mod ExamplesValues
+pub mod ExamplesRun
+pub mod ExamplesClusters
+pub mod Theorems

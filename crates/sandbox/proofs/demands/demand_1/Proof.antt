@@ -1,9 +1,0 @@
-use Rattle.sandbox.proofs.Demand1.{demand-1}
-use Rattle.sandbox.proofs.demands.demand_1.Statement.{statement}
-use Rattle.sandbox.proofs.demands.demand_1.Tie as tie
-
-returns : tie.Need-returns
-returns c = demand-1
-
-pub demand-1-spec : {M : Type 1} → statement M
-demand-1-spec = tie.close (tie.spec returns)

@@ -1,9 +1,0 @@
-use Rattle.sandbox.proofs.Demand3.{demand-3}
-use Rattle.sandbox.proofs.demands.demand_3.Statement.{statement}
-use Rattle.sandbox.proofs.demands.demand_3.Tie as tie
-
-returns : tie.Need-returns
-returns c = demand-3
-
-pub demand-3-spec : {M : Type 1} → statement M
-demand-3-spec = tie.close (tie.spec returns)

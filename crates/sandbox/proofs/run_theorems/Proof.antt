@@ -1,9 +1,0 @@
-use Rattle.sandbox.proofs.Theorems.{run}
-use Rattle.sandbox.proofs.run_theorems.Statement.{statement}
-use Rattle.sandbox.proofs.run_theorems.Tie as tie
-
-returns : tie.Need-returns
-returns c = run
-
-pub run-theorems-spec : {M : Type 1} → statement M
-run-theorems-spec = tie.close (tie.spec returns)

@@ -1,9 +1,0 @@
-pub mod Promise
-pub mod Wrong
-pub mod Schedules
-pub mod WrongRun
-pub mod Checked
-pub mod Calls
-pub mod Demand1
-pub mod Demand3
-pub mod Clusters
