@@ -12,7 +12,7 @@ use Rattle.word.proofs.Choice.{or-false}
 use Rattle.word.proofs.Bytes.{words-length}
 use Rattle.isa.specs.Program.{isStart}
 use Rattle.isa.proofs.Instructions.{start-inside}
-use Rattle.loader.specs.Broken.{badProgramLength}
+use Rattle.refusals.specs.Broken.{badProgramLength}
 use Rattle.loader.specs.declared.Loaded.the-variants.{Good}
 use Rattle.loader.proofs.Refusals.{otherwise-good, refusedIf-good}
 use Rattle.call.specs.Run.{sizesOf}

@@ -7,8 +7,8 @@ use Rattle.vliw.specs.Demand3.{WellFormed}
 use Rattle.isa.specs.Program.{isStart, operationsAt, following}
 use Rattle.isa.specs.Touch.{results}
 use Rattle.isa.specs.declared.Table.{Table}
-use Rattle.isa.specs.Bounds.{Bounds}
-use Rattle.isa.proofs.Bounds.{delay-bounds}
+use Rattle.tables.specs.Bounds.{Bounds}
+use Rattle.tables.proofs.Bounds.{delay-bounds}
 use Rattle.loader.specs.Passed.{Passed}
 use Rattle.loader.proofs.Taken.{onward, distinct}
 use Rattle.memory.specs.Memory.{store}

@@ -18,9 +18,9 @@ use Rattle.isa.specs.Program.{nowhere, spotAt, isStart, following, operation, o
 use Rattle.isa.specs.declared.Op.{Op}
 use Rattle.isa.specs.declared.Table.{Table}
 use Rattle.isa.proofs.Steps.{either-way}
-use Rattle.isa.specs.Bounds.{Bounds}
-use Rattle.isa.proofs.Bounds.{delay-bounds}
 use Rattle.isa.proofs.Instructions.{start-inside, following-within, instruction-length, instruction-at}
+use Rattle.tables.specs.Bounds.{Bounds}
+use Rattle.tables.proofs.Bounds.{delay-bounds}
 use Rattle.loader.specs.Passed.{Passed}
 use Rattle.loader.proofs.Taken.{in-cluster}
 use Rattle.memory.specs.Memory.{Store, store, anyShare}

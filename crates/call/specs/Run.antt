@@ -5,8 +5,8 @@ use Rattle.word.specs.Choice.{pick}
 use Rattle.word.specs.Bytes.{words}
 use Rattle.vliw.specs.Run.{Ran, run}
 use Rattle.vliw.specs.Machine.{Situation, inOrder, step}
-use Rattle.isa.specs.Table.{tableOf}
-use Rattle.loader.specs.Broken.{badProgramLength, badMemoryLength, badStateLength, badRoomLength}
+use Rattle.tables.specs.Table.{tableOf}
+use Rattle.refusals.specs.Broken.{badProgramLength, badMemoryLength, badStateLength, badRoomLength}
 use Rattle.loader.specs.Load.{_otherwise_, refusedIf, loadedWith}
 use Rattle.loader.specs.Answer.{roomWith}
 use Rattle.loader.specs.declared.Refusal.the-variants.{ProgramLength, MemoryLength, StateLength, RoomLength}

@@ -6,7 +6,7 @@ use Prim.Native.Nat.{ℕ}
 use native.Mathlib.Omega.{arith}
 use Rattle.word.specs.Bytes.{words}
 use Rattle.word.proofs.Choice.{never-both}
-use Rattle.isa.specs.Table.{tableOf}
+use Rattle.tables.specs.Table.{tableOf}
 use Rattle.loader.specs.Answer.{answer, loadAnswer}
 use Rattle.loader.specs.declared.Answer.{Answer}
 use Rattle.loader.specs.declared.Loaded.{Loaded}

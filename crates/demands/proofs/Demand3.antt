@@ -16,10 +16,10 @@ use Rattle.vliw.specs.Machine.{Orders, inOrder, AnyOrder}
 use Rattle.vliw.specs.Plain.{Plain}
 use Rattle.vliw.specs.Demand3.{settled, Quiet, Unseen}
 use Rattle.vliw.proofs.Demand3.{demand-3 as machine-demand-3}
-use Rattle.isa.specs.Table.{tableOf}
 use Rattle.isa.specs.Program.{isStart}
-use Rattle.isa.specs.Bounds.{Bounds}
-use Rattle.isa.proofs.Bounds.{bounds}
+use Rattle.tables.specs.Table.{tableOf}
+use Rattle.tables.specs.Bounds.{Bounds}
+use Rattle.tables.proofs.Bounds.{bounds}
 use Rattle.loader.specs.Load.{loadedOf}
 use Rattle.loader.specs.Answer.{answer, roomWith}
 use Rattle.loader.specs.declared.Answer.{Answer}

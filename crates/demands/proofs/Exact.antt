@@ -10,13 +10,13 @@ use lib.Dec.{ltb}
 use lib.ListN.{getD}
 use borrow.Author.Tests.{ltb-true, ltb-false}
 use Rattle.word.proofs.Choice.{by-test, never-both}
-use Rattle.isa.specs.Table.{badTable}
 use Rattle.isa.specs.Lowest.{lowest}
 use Rattle.isa.specs.declared.Found.{Found}
 use Rattle.isa.specs.declared.Found.the-variants.{At, Nothing}
 use Rattle.isa.specs.declared.Place.{Place}
 use Rattle.isa.proofs.Lowest.{Lowest, lowest-is}
-use Rattle.loader.specs.Broken.{badProgramLength, badRoomLength}
+use Rattle.tables.specs.Table.{badTable}
+use Rattle.refusals.specs.Broken.{badProgramLength, badRoomLength}
 use Rattle.loader.specs.Load.{_otherwise_, refusedIf, refusedAt, testedBy, loadedWith, loadedOf}
 use Rattle.loader.specs.Answer.{answer, refusalAnswer}
 use Rattle.loader.specs.declared.Refusal.{Refusal}

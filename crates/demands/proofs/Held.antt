@@ -8,8 +8,8 @@ use borrow.Author.Tests.{eq-eqb, not-false}
 use Rattle.word.specs.Bytes.{words}
 use Rattle.word.proofs.Choice.{or-false}
 use Rattle.vliw.specs.Machine.{Situation, inOrder}
-use Rattle.isa.specs.Table.{tableOf}
 use Rattle.isa.specs.Program.{isStart}
+use Rattle.tables.specs.Table.{tableOf}
 use Rattle.loader.specs.Answer.{roomWith}
 use Rattle.loader.specs.declared.Answer.{Answer}
 use Rattle.memory.specs.Memory.{Store}

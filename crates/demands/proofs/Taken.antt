@@ -9,10 +9,10 @@ use Rattle.word.specs.Bytes.{words}
 use Rattle.word.proofs.Choice.{by-test, never-both}
 use Rattle.vliw.specs.Run.{numberOf, Ran}
 use Rattle.vliw.specs.Machine.{Situation}
-use Rattle.isa.specs.Table.{tableOf}
-use Rattle.isa.specs.Bounds.{Bounds}
-use Rattle.isa.proofs.Bounds.{bounds}
-use Rattle.loader.specs.Broken.{badProgramLength, badMemoryLength, badStateLength, badRoomLength}
+use Rattle.tables.specs.Table.{tableOf}
+use Rattle.tables.specs.Bounds.{Bounds}
+use Rattle.tables.proofs.Bounds.{bounds}
+use Rattle.refusals.specs.Broken.{badProgramLength, badMemoryLength, badStateLength, badRoomLength}
 use Rattle.loader.specs.Load.{loadedWith}
 use Rattle.loader.specs.Answer.{answer}
 use Rattle.loader.specs.declared.Answer.{Answer}

@@ -10,7 +10,7 @@ use Rattle.vliw.specs.Cell.{at, landed}
 use Rattle.vliw.specs.Machine.{Instruction, Orders, AnyOrder, Situation}
 use Rattle.vliw.specs.Plain.{Plain, stepPlain}
 use Rattle.vliw.specs.Demand3.{settled, Unseen}
-use Rattle.isa.specs.Table.{tableOf}
+use Rattle.tables.specs.Table.{tableOf}
 use Rattle.loader.specs.Answer.{answer, RoomOutcome, roomWith}
 use Rattle.schedule.specs.Answer.{Checks}
 use Rattle.memory.specs.Memory.{Store, store}

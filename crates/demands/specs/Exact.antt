@@ -6,8 +6,8 @@ use mathlib.Core.List.{List, [], _∷_}
 use Prim.Native.Nat.{ℕ, _≤_, _<_}
 use lib.ListN.{getD, length}
 use Rattle.word.specs.Bytes.{words}
-use Rattle.isa.specs.Table.{badTable, tableOf}
-use Rattle.loader.specs.Broken.{badProgramLength, badMemoryLength, badStateLength, badRoomLength, noEndAt, badBitsAt, badClusterAt, tooWideAt, twoWritesAt, badControlAt}
+use Rattle.tables.specs.Table.{badTable, tableOf}
+use Rattle.refusals.specs.Broken.{badProgramLength, badMemoryLength, badStateLength, badRoomLength, noEndAt, badBitsAt, badClusterAt, tooWideAt, twoWritesAt, badControlAt}
 use Rattle.loader.specs.declared.Answer.{Answer}
 use Rattle.schedule.specs.Rule.{TooSoonAt}
 use Rattle.machine.specs.Valid.{badState}

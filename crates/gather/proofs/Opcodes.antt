@@ -8,30 +8,19 @@ use native.Mathlib.Omega.{arith}
 use lib.Dec.{eqb, ltb, leb}
 use borrow.Author.Tests.{eqb-true, eqb-false, ltb-true, ltb-false, leb-true, ne-eqb, lt-ltb, le-ltb, le-leb}
 use Rattle.word.proofs.Choice.{is-false, never-both, or-true, or-false, or-right, and-true}
-use Rattle.isa.specs.Syllable.{opcode, formatOf, isMem}
-use Rattle.isa.specs.Decode.{decodeAs, decode}
+use Rattle.isa.specs.Syllable.{opcode, isMem}
+use Rattle.isa.specs.Decode.{decode}
 use Rattle.isa.specs.declared.Op.{Op}
-use Rattle.isa.specs.declared.Format.{Format}
-use Rattle.isa.specs.declared.Format.the-variants.{Still, Two, One, Carry, Test, Select, Load, Store, Copy, Jump, Fork}
-use Rattle.isa.proofs.Formats.{Among, format-among}
+use Rattle.isa.proofs.Formats.{within-range, within-true, within-false}
 use Rattle.isa.specs.declared.Way.the-variants.{Along}
 use Rattle.isa.proofs.Decoded.{decoded, decode-way, opcode-below}
+use Rattle.isa.proofs.Written.{to-none, carry-none}
 use Rattle.isa.proofs.Ways.{way-along}
 use Rattle.isa.specs.declared.Turn.{Turn}
 use Rattle.machine.specs.Instruction.{Fired, isLoad, isStore, Next, nextBy}
 use Rattle.gather.specs.Gather.{isTurn, nextFrom, Formed}
 
--- ---- tests
-
-module _ (a b c : ℕ) where
-  within-range : leb a c && leb c b ≡ true → (a ≤ c) × (c ≤ b)
-  within-range e = let (p, q) = and-true (leb a c) (leb c b) e in (leb-true a c p, leb-true c b q)
-
-  pub within-true : a ≤ c → c ≤ b → leb a c && leb c b ≡ true
-  within-true p q = rw (le-leb a c p, le-leb c b q)
-
-  pub within-false : (a ≤ c → c ≤ b → ⊥) → leb a c && leb c b ≡ false
-  within-false h = is-false _ (λ e. let (p, q) = within-range e in h p q)
+-- ---- classes
 
 module _ (c : ℕ) where
   pub memory-range : isMem c ≡ true → (52 ≤ c) × (c ≤ 59)
@@ -86,30 +75,16 @@ module _ (e : Fired) where
 -- ---- decoding
 
 module _ (c s : ℕ) (h : c < 4) where
-  silent-as : (f : Format) → Among f (opcode s) → let o = decodeAs c s f in
-      (opcode s ≡ 0 → (o .t ≡ 0) × (o .carry ≡ 0)) × (52 ≤ opcode s → o .carry ≡ 0) × (57 ≤ opcode s → (opcode s ≡ 60 → ⊥) → o .t ≡ 0)
-  silent-as Still a = (λ z. (refl, refl), λ z. refl, λ y z. refl)
-  silent-as Two (inl a) = (λ z. omega arith, λ z. omega arith, λ y z. omega arith)
-  silent-as Two (inr a) = (λ z. omega arith, λ z. omega arith, λ y z. omega arith)
-  silent-as One a = (λ z. omega arith, λ z. omega arith, λ y z. omega arith)
-  silent-as Carry a = (λ z. omega arith, λ z. omega arith, λ y z. omega arith)
-  silent-as Test a = (λ z. omega arith, λ z. omega arith, λ y z. omega arith)
-  silent-as Select a = (λ z. omega arith, λ z. omega arith, λ y z. omega arith)
-  silent-as Load a = (λ z. omega arith, λ z. refl, λ y z. omega arith)
-  silent-as Store a = (λ z. (refl, refl), λ z. refl, λ y z. refl)
-  silent-as Copy a = (λ z. omega arith, λ z. refl, λ y z. absurd (z a))
-  silent-as Jump a = (λ z. (refl, refl), λ z. refl, λ y z. refl)
-  silent-as Fork a = (λ z. (refl, refl), λ z. refl, λ y z. refl)
-
   along : isTurn (opcode s) ≡ false → decode c s .way ≡ Along
   along t =
       let (some, upto) = or-false (eqb (opcode s) 0) (ltb 60 (opcode s)) t in
       decode-way c s ∙ way-along s (omega (arith, eqb-false (opcode s) 0 some)) (ltb-false 60 (opcode s) upto)
 
+  -- what has no destination, and who alone has a carry
   silent-decode : let o = decode c s in
       (opcode s ≡ 0 → (o .t ≡ 0) × (o .carry ≡ 0)) × (52 ≤ opcode s → o .carry ≡ 0) × (57 ≤ opcode s → (opcode s ≡ 60 → ⊥) → o .t ≡ 0)
-  unfolding decode
-  silent-decode = silent-as (formatOf (opcode s)) (format-among (opcode s))
+  silent-decode =
+      (λ z. (to-none c s (inl z), carry-none c s (λ e. omega arith)), λ h. carry-none c s (λ e. omega arith), λ y z. to-none c s (inr (y, z)))
 
   pub formed : Formed (decode c s)
   formed =

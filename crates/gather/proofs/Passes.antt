@@ -3,26 +3,31 @@ use mathlib.Core.Path.{_≡_, refl, sym, _∙_}
 use mathlib.Core.Bool.{Bool, false, _||_}
 use mathlib.Core.Bool.{or-false as or-nothing}
 use mathlib.Core.List.{List, [], _∷_, _++_, map, map-append}
-use Prim.Native.Nat.{ℕ, suc, _+_, _≤_, _<_}
+use Prim.Native.Nat.{ℕ, suc, _+_, _-_, _≤_, _<_}
 use native.Mathlib.Numerals.{add-one}
 use native.Mathlib.Omega.{arith}
-use lib.Dec.{ltb}
+use lib.Dec.{eqb, ltb}
+use borrow.Author.Tests.{eqb-true}
+use mathlib.Core.Logic.{⊎-elim}
 use lib.ListN.{length, getD, take, length-append, length-map}
 use lib.Seq.{take-suc, take-all, length-take-le}
+use Rattle.word.specs.Choice.{bit}
 use Rattle.word.specs.Lists.{any}
-use Rattle.word.proofs.Choice.{or-false}
+use Rattle.word.proofs.Choice.{by-test, or-false}
 use Rattle.word.proofs.Lists.{any-append}
-use Rattle.vliw.specs.Cell.{Cell, Registers}
-use Rattle.isa.specs.Program.{nowhere, spots, spotAt, operation}
+use Rattle.vliw.specs.Cell.{Cell, Registers, at}
+use Rattle.isa.specs.Decode.{decode}
+use Rattle.isa.specs.Program.{nowhere, spots, spotAt, spotBefore, operation}
+use Rattle.isa.specs.Syllable.{opens}
 use Rattle.isa.specs.Touch.{dests}
 use Rattle.isa.specs.declared.Op.{Op}
 use Rattle.isa.specs.declared.Spot.{Spot}
 use Rattle.isa.specs.declared.Place.{Place}
 use Rattle.isa.specs.declared.Delays.{Delays}
-use Rattle.isa.proofs.Instructions.{spots-length}
+use Rattle.isa.proofs.Instructions.{spots-length, spot-syllable, opened-inside}
 use Rattle.machine.specs.Instruction.{Fired, fire}
 use Rattle.ticks.specs.Ticks.{views, Bank, Results}
-use Rattle.gather.specs.Gather.{opBusy, Own, Formed, opLate, fireAt, Scratch, Acts, Does, fired, Came, Gathered}
+use Rattle.gather.specs.Gather.{opBusy, Own, Formed, namedLate, opLate, fireAt, Scratch, Acts, Does, fired, Came, Gathered}
 use Rattle.memory.specs.Memory.{_orElse_}
 use Rattle.memory.specs.Held.{storesIn, Stores}
 use Rattle.memory.specs.declared.FirstFault.{FirstFault}
@@ -89,8 +94,15 @@ module _ {late : Op → Bool} {firing : Op → Fired} {d : Delays} {m : List ℕ
 -- ---- syllables
 
 module _ (ws : List ℕ) (z : Own (spots ws)) (j : ℕ) (h : j < length ws) where
-  pub opened-high : spotAt ws j .opened ≤ 4
-  opened-high = z .opened j (rw spots-length h)
+  pub opened-some : (0 < spotAt ws j .opened) × (spotAt ws j .opened ≤ 4)
+  opened-some = z .opened j (rw spots-length h)
+
+  -- a walk by counts: k clusters are opened before the syllable s, and n with it
+  pub opened-at : {k s n : ℕ} → k ≡ spotBefore ws j .opened → s ≡ getD ws j 0 → n ≡ k + bit (opens s) → n ≡ spotAt ws j .opened
+  opened-at e q g = rw (g, e, q) (sym (opened-inside ws j (λ i b. z .whole i (rw spots-length b)) h))
+
+  pub decoded-at : {c s : ℕ} → c ≡ spotAt ws j .opened - 1 → s ≡ getD ws j 0 → decode c s ≡ operation (spotAt ws j)
+  decoded-at e q = rw (e, q, spot-syllable ws j)
 
   pub operations-more : map operation (take j (spots ws)) ++ (operation (spotAt ws j) ∷ []) ≡ map operation (take (j + 1) (spots ws))
   operations-more =
@@ -110,27 +122,35 @@ operations-all ws n h = rw (take-all n (spots ws) (rw spots-length h))
 
 -- ---- by the machine's registers
 
-module _ {t : ℕ} {vs os rs ls : List ℕ} (b : Bank t vs os rs ls) where
+module _ {t : ℕ} {vs os rs ls : List ℕ} (b : Bank t vs os rs ls) (idle : at (views t vs os rs ls) 0 .busy ≡ 0) where
   abbrev l : Registers
   l = views t vs os rs ls
+
+  -- register 0, which stands for none, is never in flight
+  named : (r : ℕ) → ltb t (getD rs r 0) ≡ namedLate t rs r
+  named r =
+      ⊎-elim
+      (λ e. rw (eqb-true r 0 e) (sym (view-late (b .sizes) t 0 (omega arith)) ∙ rw idle))
+      (λ e. rw e)
+      (by-test (eqb r 0))
 
   module _ {o : Op} (f : Formed o) where
     late-at : opBusy l o ≡ opLate t rs o
     late-at =
         let z = b .sizes in
-        rw (view-late z t (o .s1) (f .s1), view-late z t (o .s2) (f .s2), view-late z t (o .b) (f .b), view-late z t (o .stored) (f .stored), view-late z t (o .t) (f .t), view-late z t (o .carry) (f .carry))
+        rw (view-late z t (o .s1) (f .s1), view-late z t (o .s2) (f .s2), view-late z t (o .b) (f .b), view-late z t (o .stored) (f .stored), view-late z t (o .t) (f .t), view-late z t (o .carry) (f .carry), ← named (o .b), ← named (o .stored), ← named (o .carry))
 
     value-at : (r : ℕ) → r < 288 → ltb t (getD rs r 0) ≡ false → getD (map (λ (c : Cell). c .value) l) r 0 ≡ getD vs r 0
     value-at r h e = view-read (b .sizes) t r h ∙ made-value b r e
 
     fire-at : opLate t rs o ≡ false → fire (map (λ (c : Cell). c .value) l) o ≡ fireAt vs o
     fire-at e =
-        let (e₅, _) = or-false _ (ltb t (getD rs (o .carry) 0)) e in
+        let (e₅, _) = or-false _ (namedLate t rs (o .carry)) e in
         let (e₄, _) = or-false _ (ltb t (getD rs (o .t) 0)) e₅ in
-        let (e₃, s) = or-false _ (ltb t (getD rs (o .stored) 0)) e₄ in
-        let (e₂, r) = or-false _ (ltb t (getD rs (o .b) 0)) e₃ in
+        let (e₃, s) = or-false _ (namedLate t rs (o .stored)) e₄ in
+        let (e₂, r) = or-false _ (namedLate t rs (o .b)) e₃ in
         let (p, q) = or-false (ltb t (getD rs (o .s1) 0)) (ltb t (getD rs (o .s2) 0)) e₂ in
-        rw (value-at (o .s1) (f .s1) p, value-at (o .s2) (f .s2) q, value-at (o .b) (f .b) r, value-at (o .stored) (f .stored) s)
+        rw (value-at (o .s1) (f .s1) p, value-at (o .s2) (f .s2) q, value-at (o .b) (f .b) (named (o .b) ∙ r), value-at (o .stored) (f .stored) (named (o .stored) ∙ s))
 
   -- of all operations that decoding gives
   abbrev AllFormed : List Spot → Type 0
@@ -150,7 +170,7 @@ module _ {t : ℕ} {vs os rs ls : List ℕ} (b : Bank t vs os rs ls) where
       → Gathered (opLate t rs) (fireAt vs) d m j (map operation xs) s a
       → Gathered (opBusy l) (fire (map (λ (c : Cell). c .value) l)) d m j (map operation xs) s a
   gathered-views {xs} z {d} {m} {j} {s} {a} k =
-      let f : AllFormed xs = λ i h. formed _ _ (omega (arith, z .opened i h)) in
+      let f : AllFormed xs = λ i h. formed _ _ (omega (arith, z .opened i h .1)) in
       record {
         busy = rw (all-late xs f) (k .busy);
         holds = k .holds;

@@ -1,8 +1,8 @@
 -- Private to the run's loop, nobody has to believe it: what one pass over an instruction's operations gathers, operation by operation.
-use mathlib.Core.Bool.{Bool, false, _||_}
+use mathlib.Core.Bool.{Bool, false, not, _||_, _&&_}
 use mathlib.Core.List.{List, [], _∷_, _++_, map}
 use mathlib.Core.Path.{_≡_}
-use Prim.Native.Nat.{ℕ, _+_, _*_, _≤_, _<_}
+use Prim.Native.Nat.{ℕ, suc, _+_, _*_, _≤_, _<_}
 use lib.Dec.{eqb, ltb}
 use lib.ListN.{length, getD}
 use Rattle.word.specs.Choice.{pick}
@@ -49,10 +49,11 @@ turnIn Set place = To place
 
 -- ---- what the pass goes by
 
--- the spots of one instruction: few, each in one of four clusters
+-- the spots of one instruction: few, each in one of four clusters that is opened, and only the last is a last one
 pub record Own (xs : List Spot) : Type 0 where
   pub few : length xs ≤ 32
-  pub opened : (k : ℕ) → k < length xs → getD xs k nowhere .opened ≤ 4
+  pub opened : (k : ℕ) → k < length xs → (0 < getD xs k nowhere .opened) × (getD xs k nowhere .opened ≤ 4)
+  pub whole : (k : ℕ) → suc k < length xs → getD xs k nowhere .last ≡ false
 
 -- every result takes 1 to 8 instructions
 abbrev pub Timely : Delays → Type 0
@@ -77,10 +78,13 @@ pub record Formed (o : Op) : Type 0 where
   pub along : isTurn (o .opcode) ≡ false → o .way ≡ Along
 
 -- `opBusy` by the loop's registers at tick t, and `fire` of an operation with none in flight
+abbrev pub namedLate : ℕ → List ℕ → ℕ → Bool
+namedLate t rs r = not (eqb r 0) && ltb t (getD rs r 0)
+
 abbrev pub opLate : ℕ → List ℕ → Op → Bool
 opLate t rs o =
-    ltb t (getD rs (o .s1) 0) || ltb t (getD rs (o .s2) 0) || ltb t (getD rs (o .b) 0) || ltb t (getD rs (o .stored) 0)
-    || ltb t (getD rs (o .t) 0) || ltb t (getD rs (o .carry) 0)
+    ltb t (getD rs (o .s1) 0) || ltb t (getD rs (o .s2) 0) || namedLate t rs (o .b) || namedLate t rs (o .stored)
+    || ltb t (getD rs (o .t) 0) || namedLate t rs (o .carry)
 
 abbrev pub fireAt : List ℕ → Op → Fired
 fireAt vs o =

@@ -4,13 +4,11 @@ use isa::Delays;
 use isa::Op;
 use isa::Place;
 use isa::Slot;
-use isa::Spot;
 use isa::Turn;
 use isa::control::turn;
 use isa::decode;
-use isa::stretch::before_all;
-use isa::stretch::cluster;
-use isa::stretch::next_spot;
+use isa::stretch::opened;
+use isa::stretch::opened_by;
 use isa::stretch::syllable;
 use isa::syllable::opcode;
 use isa::touch::delay;
@@ -26,6 +24,7 @@ ghost use Rattle.ops.specs.Value.{loaded, stored};
 ghost use Rattle.ops.specs.Value.{value as valueOf};
 ghost use Rattle.isa.specs.Syllable.{isMem};
 ghost use Rattle.isa.specs.Control.{turnOf};
+ghost use Rattle.isa.specs.Decode.{decode};
 ghost use Rattle.isa.specs.Program.{spots, operation};
 ghost use Rattle.isa.specs.Touch.{dests};
 ghost use Rattle.isa.specs.declared.Op.{Op};
@@ -35,7 +34,7 @@ ghost use Rattle.memory.specs.Held.{Within, Stores, storesIn};
 ghost use Rattle.memory.specs.declared.FirstFault.the-variants.{None};
 ghost use Rattle.machine.specs.Instruction.{addressOf, valueIn, Next, nextBy};
 ghost use Rattle.ticks.specs.Ticks.{Results};
-ghost use Rattle.gather.specs.Gather.{Own, Timely, Formed, isTurn, turnIn, opLate, fireAt, destIn, valuesBy, Noted, Scratch, scratch, Holds, Acts, Does, Gathered};
+ghost use Rattle.gather.specs.Gather.{Own, Timely, Formed, isTurn, turnIn, namedLate, opLate, fireAt, destIn, valuesBy, Noted, Scratch, scratch, Holds, Acts, Does, Gathered};
 
 // Where the operations so far go on: that is open, they stop, or it is set to a place. Apart from the place, since copying isa's Turn once
 // for each operation makes the loop twice as slow (docs/DECISIONS.md).
@@ -65,6 +64,14 @@ pub struct Operands {
 
 // ---- registers in flight
 
+// Whether register r is in flight, where 0 stands for none: the compiler leaves the test out where a form has none.
+fn named_late(ready: &[u64; 288], r: u32, t: Count) -> bool
+    requires { ⌜ r < 288 ⌝ }
+    ensures { λ b. ⌜ b ≡ namedLate (t .0) (now (ready .entry)) r ⌝ }
+{
+    r != 0 && ticks::late(ready, r, t)
+}
+
 // Whether a register of the operation is in flight.
 fn late(op: Op, ready: &[u64; 288], t: Count) -> bool
     requires { ⌜ Formed op ⌝ }
@@ -76,16 +83,16 @@ fn late(op: Op, ready: &[u64; 288], t: Count) -> bool
     if ticks::late(ready, op.s2, t) {
         return true;
     }
-    if ticks::late(ready, op.b, t) {
+    if named_late(ready, op.b, t) {
         return true;
     }
-    if ticks::late(ready, op.stored, t) {
+    if named_late(ready, op.stored, t) {
         return true;
     }
     if ticks::late(ready, op.t, t) {
         return true;
     }
-    ticks::late(ready, op.carry, t)
+    named_late(ready, op.carry, t)
 }
 
 // An operation with a register in flight does nothing.
@@ -343,7 +350,6 @@ fn access(
         s (scratch (now (reg .entry)) (now (val .entry)) (now (del .entry)) (now (offsets .entry)) (now (contents .entry)) (now (sizes .entry)))
         r (scratch (now (reg .exit)) (now (val .exit)) (now (del .exit)) (now (offsets .exit)) (now (contents .exit)) (now (sizes .exit)))) ⌝ }
 {
-    let fault = s.fault;
     let course = s.course;
     let place = s.place;
     let n = memory::size(op.opcode);
@@ -361,7 +367,7 @@ fn access(
                 let results = load(op, a, memory, delays, s.results, reg, val, del);
                 return Seen {
                     busy: s.busy,
-                    fault,
+                    fault: FirstFault::None,
                     results,
                     stores: s.stores,
                     course,
@@ -371,7 +377,7 @@ fn access(
             store(op, value, a, n, s.stores, offsets, contents, sizes);
             Seen {
                 busy: s.busy,
-                fault,
+                fault: FirstFault::None,
                 results: s.results,
                 stores: s.stores + 1,
                 course,
@@ -498,9 +504,10 @@ fn turns(op: Op, end: Place, t: Count, value: &[u32; 288], ready: &[u64; 288], s
 
 // ---- the pass
 
-// One spot more. It is decoded and done by the range of its opcode, so that the compiled code tests it once.
+// Syllable w of cluster c. It is decoded and done by the range of its opcode, so that the compiled code tests it once.
 fn step(
-    x: Spot,
+    c: u32,
+    w: u32,
     end: Place,
     t: Count,
     value: &[u32; 288],
@@ -515,17 +522,15 @@ fn step(
     contents: &mut [u32; 32],
     sizes: &mut [u32; 32],
 ) -> Seen
-    requires { ⌜ x .opened ≤ 4 ⌝ }
+    requires { ⌜ c < 4 ⌝ }
     requires { ⌜ Timely delays ⌝ }
     requires { ⌜ Holds (length (now memory)) s (scratch (now reg) (now val) (now del) (now offsets) (now contents) (now sizes)) ⌝ }
     requires { ⌜ (s .results < 63) × (s .stores < 32) ⌝ }
-    ensures { λ r. ⌜ Does (opLate (t .0) (now (ready .entry)) (operation x)) delays (now (memory .entry)) (end .0) (fireAt (now (value .entry)) (operation x))
+    ensures { λ r. ⌜ Does (opLate (t .0) (now (ready .entry)) (decode c w)) delays (now (memory .entry)) (end .0) (fireAt (now (value .entry)) (decode c w))
         s (scratch (now (reg .entry)) (now (val .entry)) (now (del .entry)) (now (offsets .entry)) (now (contents .entry)) (now (sizes .entry)))
         r (scratch (now (reg .exit)) (now (val .exit)) (now (del .exit)) (now (offsets .exit)) (now (contents .exit)) (now (sizes .exit))) ⌝ }
 {
-    let w = x.syllable;
     let o = opcode(w);
-    let c = cluster(x) as u32;
     if o == 0 {
         return turns(decode::still(w), end, t, value, ready, s);
     }
@@ -607,11 +612,13 @@ pub fn collect(
         course: Course::Open,
         place: end,
     };
-    let mut x = before_all();
+    let mut clusters = 0;
     for j in 0..stretch.len() / 4 {
-        x = next_spot(x, syllable(stretch, Slot(j)));
+        let w = syllable(stretch, Slot(j));
+        clusters = opened(clusters, w);
         s = step(
-            x,
+            opened_by(clusters) as u32,
+            w,
             end,
             t,
             value,

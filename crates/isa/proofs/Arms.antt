@@ -1,8 +1,6 @@
--- Where the form is known, the code makes the form's line of the definition: of `badBitsAs` by `tests`, of `decodeAs` by `fields`.
+-- Where the form is known, the code makes the form's line of `decodeAs`, by `fields`.
 use mathlib.Core.Path.{_≡_, sym, _∙_}
-use mathlib.Core.Bool.{Bool}
 use Prim.Native.Nat.{ℕ}
-use Rattle.isa.specs.Zero.{badBitsAs}
 use Rattle.isa.specs.Syllable.{opcode}
 use Rattle.isa.specs.Register.{general}
 use Rattle.isa.specs.Control.{wayAs, wayOf}
@@ -11,12 +9,7 @@ use Rattle.isa.specs.declared.Op.{Op}
 use Rattle.isa.specs.declared.Way.{Way}
 use Rattle.isa.specs.declared.Format.{Format}
 use Rattle.isa.proofs.Formats.{Among, format-of}
-use Rattle.isa.proofs.Steps.{steps, joins}
-
-pub bad-line : (s : ℕ) (f g : Format) (r : Bool) → f ≡ g → r ≡ badBitsAs g s → r ≡ badBitsAs f s
-bad-line s f g r e h = rw e h
-
-pub ruleset tests = (bad-line, joins)
+use Rattle.isa.proofs.Steps.{steps}
 
 pub as-form : (c s : ℕ) (f : Format) (r : Op) → Among f (opcode s) → r ≡ decodeAs c s f → r ≡ decode c s
 unfolding decode

@@ -1,14 +1,14 @@
 -- The opcodes of each form.
 use mathlib.Core.Path.{_≡_, refl}
-use mathlib.Core.Bool.{Bool, true, false}
+use mathlib.Core.Bool.{Bool, true, false, not, _&&_}
 use mathlib.Core.Logic.{_⊎_, inl, inr, ⊎-elim}
 use Prim.Native.Nat.{ℕ, _≤_, _<_}
 use native.Mathlib.Omega.{arith}
 use lib.Dec.{eqb, leb}
-use borrow.Author.Tests.{ne-eqb, le-leb, lt-leb, eqb-true, eqb-false, leb-true, leb-false}
+use borrow.Author.Tests.{ne-eqb, le-leb, lt-leb, eqb-true, eqb-false, leb-true, leb-false, not-true}
 use Rattle.word.specs.Choice.{pick}
-use Rattle.word.proofs.Choice.{and-true, and-false}
-use Rattle.isa.specs.Syllable.{formatOf, within}
+use Rattle.word.proofs.Choice.{is-false, bool-same, or-true, or-right, and-true, and-false}
+use Rattle.isa.specs.Syllable.{formatOf, within, isAlu}
 use Rattle.isa.specs.declared.Format.{Format}
 use Rattle.isa.specs.declared.Format.the-variants.{Still, Two, One, Carry, Test, Select, Load, Store, Copy, Jump, Fork}
 
@@ -28,6 +28,32 @@ Among Fork o = 62 ≤ o
 
 pub within-range : (first last o : ℕ) → within first last o ≡ true → (first ≤ o) × (o ≤ last)
 within-range first last o h = let (p, q) = and-true (leb first o) (leb o last) h in (leb-true first o p, leb-true o last q)
+
+pub within-true : (first last o : ℕ) → first ≤ o → o ≤ last → within first last o ≡ true
+within-true first last o p q = rw (le-leb first o p, le-leb o last q)
+
+pub within-false : (first last o : ℕ) → (first ≤ o → o ≤ last → ⊥) → within first last o ≡ false
+within-false first last o h = is-false _ (λ e. let (p, q) = within-range first last o e in h p q)
+
+-- 1 to 51 but for 24 to 29
+pub alu-range : (o : ℕ) → within 1 51 o && not (within 24 29 o) ≡ isAlu o
+alu-range o = bool-same _ _ there back
+  where
+    there : within 1 51 o && not (within 24 29 o) ≡ true → isAlu o ≡ true
+    there e =
+        let (p, q) = and-true _ _ e in
+        let (a, b) = within-range 1 51 o p in
+        ⊎-elim
+        (λ k. rw (within-true 1 23 o a (omega (arith, leb-false 24 o k))))
+        (λ k. or-right (within 1 23 o) (within-true 30 51 o (leb-false o 29 k) b))
+        (and-false (leb 24 o) (leb o 29) (not-true _ q))
+
+    back : isAlu o ≡ true → within 1 51 o && not (within 24 29 o) ≡ true
+    back e =
+        ⊎-elim
+        (λ k. let (a, b) = within-range 1 23 o k in rw (within-true 1 51 o a (omega arith), within-false 24 29 o (λ m n. omega arith)))
+        (λ k. let (a, b) = within-range 30 51 o k in rw (within-true 1 51 o (omega arith) b, within-false 24 29 o (λ m n. omega arith)))
+        (or-true (within 1 23 o) (within 30 51 o) e)
 
 -- outside 19 to 23
 pub among-two : (o : ℕ) → 0 < o → o ≤ 39 → within 19 23 o ≡ false → Among Two o

@@ -24,6 +24,12 @@ syllables : (f : Bool) (k : ℕ) (l : List ℕ) → map (λ (x : Spot). x .sylla
 syllables f k [] = refl
 syllables f k (s ∷ ss) = rw (syllables (ends s) _ ss)
 
+-- and the last one of an instruction has its end bit
+lasts : (f : Bool) (k : ℕ) (l : List ℕ) (i : ℕ) → getD (spotsFrom f k l) i nowhere .last ≡ ends (getD l i 0)
+lasts f k [] i = refl
+lasts f k (s ∷ ss) zero = refl
+lasts f k (s ∷ ss) (suc i) = lasts (ends s) _ ss i
+
 from-next : (f : Bool) (k : ℕ) (l : List ℕ) (i : ℕ) (d : Spot) → suc i < length l
     → getD (spotsFrom f k l) (suc i) d ≡ nextSpot (getD (spotsFrom f k l) i d) (getD l (suc i) 0)
 from-next f k [] i d h = absurd (not-suc-le-zero h)
@@ -55,6 +61,9 @@ spots-length p = sym (length-map (spots p) (λ (x : Spot). x .syllable)) ∙ ap 
 pub spot-syllable : (p : List ℕ) (i : ℕ) → spotAt p i .syllable ≡ getD p i 0
 spot-syllable p i = sym (List·getD-map (λ (x : Spot). x .syllable) (spots p) i _) ∙ ap (λ (l : List ℕ). getD l i 0) (syllables true 0 p)
 
+pub spot-last : (p : List ℕ) (i : ℕ) → spotAt p i .last ≡ ends (getD p i 0)
+spot-last p i = lasts true 0 p i
+
 pub spot-next : (p : List ℕ) (i : ℕ) → suc i < length p → spotAt p (suc i) ≡ nextSpot (spotAt p i) (getD p (suc i) 0)
 spot-next p i h = from-next true 0 p i _ h
 
@@ -73,12 +82,18 @@ pick-below true k n h = zero-le
 pick-below false k n h = h
 
 opened-step : (x : Spot) (s n : ℕ) → x .opened ≤ n → nextSpot x s .opened ≤ suc n
-opened-step x s n h = omega (arith, bit-one (opens s), pick-below (ends (x .syllable)) (x .opened) n h)
+opened-step x s n h = omega (arith, bit-one (opens s), pick-below (x .last) (x .opened) n h)
 
 pub walk-opened : (p : List ℕ) (i : ℕ) → i ≤ length p → spotBefore p i .opened ≤ i
 walk-opened p zero h = zero-le
 walk-opened p (suc i) h =
     subst (λ (x : Spot). x .opened ≤ suc i) (spot-walk p i h) (opened-step (spotBefore p i) (getD p i 0) i (walk-opened p i (omega arith)))
+
+-- inside an instruction none is closed
+pub opened-inside : (p : List ℕ) (i : ℕ) → ((k : ℕ) → suc k < length p → spotAt p k .last ≡ false) → i < length p
+    → spotAt p i .opened ≡ spotBefore p i .opened + bit (opens (getD p i 0))
+opened-inside p zero h b = sym (ap (λ (x : Spot). x .opened) (spot-walk p 0 b))
+opened-inside p (suc i) h b = ap (λ (x : Spot). x .opened) (spot-next p i b) ∙ rw (h i b)
 
 pub spots-take : (n : ℕ) (p : List ℕ) → spots (take n p) ≡ take n (spots p)
 spots-take n p = sym (from-take true 0 n p)
@@ -99,7 +114,7 @@ start-zero [] h = absurd (not-suc-le-zero h)
 start-zero (s ∷ ss) h = refl
 
 pub start-next : (p : List ℕ) (i : ℕ) → suc i < length p → isStart p (suc i) ≡ ends (getD p i 0)
-start-next p i h = ap (λ (x : Spot). x .first) (spot-next p i h) ∙ ap ends (spot-syllable p i)
+start-next p i h = ap (λ (x : Spot). x .first) (spot-next p i h) ∙ spot-last p i
 
 pub start-after : (p : List ℕ) (i : ℕ) → 0 < i → i < length p → isStart p i ≡ ends (getD p (i - 1) 0)
 start-after p zero a b = absurd (not-suc-le-zero a)
@@ -131,7 +146,7 @@ following-end : (p : List ℕ) (i : ℕ) → length p ≤ i → following p i �
 following-end p i h = rw (drop-of-length-le (spots p) {i = i} (rw spots-length h)) (add-zero i)
 
 following-step : (p : List ℕ) (i : ℕ) → i < length p → following p i ≡ pick (ends (getD p i 0)) (suc i) (following p (suc i))
-following-step p i h = rw (drop-cons (spots p) i nowhere (rw spots-length h), spot-syllable p i) (by (ends (getD p i 0)))
+following-step p i h = rw (drop-cons (spots p) i nowhere (rw spots-length h), spot-last p i) (by (ends (getD p i 0)))
   where
     by : (b : Bool) → i + suc (length (pick b [] (instructionAt p (suc i)))) ≡ pick b (suc i) (following p (suc i))
     by true = omega arith
@@ -210,7 +225,7 @@ covered p (suc j) h =
 
 stretch-take : (xs : List Spot) → stretch xs ≡ take (length (stretch xs)) xs
 stretch-take [] = refl
-stretch-take (x ∷ xs) = by (ends (x .syllable)) (stretch-take xs)
+stretch-take (x ∷ xs) = by (x .last) (stretch-take xs)
   where
     by : (b : Bool) → stretch xs ≡ take (length (stretch xs)) xs → x ∷ pick b [] (stretch xs) ≡ take (suc (length (pick b [] (stretch xs)))) (x ∷ xs)
     by true e = refl

@@ -3,8 +3,7 @@ pub mod Steps
 pub mod Formats
 pub mod Arms
 pub mod Decoded
-pub mod Bounds
+pub mod Written
 pub mod Lowest
 pub mod Instructions
 pub mod Ways
-pub mod Rebuilt

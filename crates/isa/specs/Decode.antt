@@ -3,7 +3,7 @@ use Prim.Native.Nat.{ℕ}
 use lib.Dec.{eqb}
 use Rattle.word.specs.Choice.{pick}
 use Rattle.word.specs.Widen.{widen}
-use Rattle.isa.specs.Syllable.{bits, opcode, formatOf}
+use Rattle.isa.specs.Syllable.{bits, opcode, source, formatOf}
 use Rattle.isa.specs.Register.{general, branch}
 use Rattle.isa.specs.Control.{wayAs}
 use Rattle.isa.specs.declared.Op.{Op}
@@ -53,7 +53,7 @@ module _ (c s : ℕ) where
   decodeAs Select = record { opcode = o; s1 = s1; s2 = s2; b = b; stored = 0; immediate = 0; offset = 0; t = t; carry = 0; way = Along }
   decodeAs Load = record { opcode = o; s1 = s1; s2 = 0; b = 0; stored = 0; immediate = 0; offset = offsetOf s; t = t; carry = 0; way = Along }
   decodeAs Store = record { opcode = o; s1 = s1; s2 = 0; b = 0; stored = t; immediate = 0; offset = offsetOf s; t = 0; carry = 0; way = Along }
-  decodeAs Copy = record { opcode = o; s1 = general (bits 1 0 s) (bits 17 12 s); s2 = 0; b = 0; stored = 0; immediate = 0; offset = 0; t = t; carry = 0; way = Along }
+  decodeAs Copy = record { opcode = o; s1 = general (source s) (bits 17 12 s); s2 = 0; b = 0; stored = 0; immediate = 0; offset = 0; t = t; carry = 0; way = Along }
   decodeAs Jump = record { opcode = o; s1 = 0; s2 = 0; b = 0; stored = 0; immediate = 0; offset = 0; t = 0; carry = 0; way = wayAs s Jump }
   decodeAs Fork = record { opcode = o; s1 = 0; s2 = 0; b = branch c (bits 23 21 s); stored = 0; immediate = 0; offset = 0; t = 0; carry = 0; way = wayAs s Fork }
 

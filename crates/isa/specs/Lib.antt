@@ -1,11 +1,7 @@
 pub mod Syllable
 pub mod Register
 pub mod Control
-pub mod Zero
-pub mod Table
 pub mod Decode
 pub mod Program
 pub mod Touch
-pub mod Bounds
 pub mod Lowest
-pub mod Rebuilt

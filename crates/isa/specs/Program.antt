@@ -11,19 +11,20 @@ use Rattle.isa.specs.Decode.{decode}
 use Rattle.isa.specs.declared.Op.{Op}
 use Rattle.isa.specs.declared.Spot.{Spot}
 
--- from a syllable on: whether it is its instruction's first, and how many clusters that one opened before it
+-- the spots from a syllable on, by whether it is its instruction's first and how many clusters that one opened before it; its last has the
+-- end bit
 abbrev pub spotsFrom : Bool → ℕ → List ℕ → List Spot
 spotsFrom first opened [] = []
 spotsFrom first opened (s ∷ ss) =
     let k = pick first 0 opened + bit (opens s) in
-    record { first = first; opened = k; syllable = s } ∷ spotsFrom (ends s) k ss
+    record { first = first; last = ends s; opened = k; syllable = s } ∷ spotsFrom (ends s) k ss
 
 -- syllable 0 is a first one, and so is each after an end bit
 abbrev pub spots : List ℕ → List Spot
 spots program = spotsFrom true 0 program
 
 abbrev pub nowhere : Spot
-nowhere = record { first = false; opened = 0; syllable = 0 }
+nowhere = record { first = false; last = false; opened = 0; syllable = 0 }
 
 abbrev pub spotAt : List ℕ → ℕ → Spot
 spotAt program i = getD (spots program) i nowhere
@@ -42,10 +43,10 @@ pub record Starts (program : List ℕ) : Type 0 where
   pub after : (i : ℕ) → 0 < i → i < length program → isStart program i ≡ ends (getD program (i - 1) 0)
   pub outside : (i : ℕ) → length program ≤ i → isStart program i ≡ false
 
--- up to the end bit
+-- up to a last one
 abbrev pub stretch : List Spot → List Spot
 stretch [] = []
-stretch (x ∷ xs) = let more = stretch xs in x ∷ pick (ends (x .syllable)) [] more
+stretch (x ∷ xs) = let more = stretch xs in x ∷ pick (x .last) [] more
 
 abbrev pub instructionAt : List ℕ → ℕ → List Spot
 instructionAt program i = stretch (drop i (spots program))
@@ -59,12 +60,13 @@ operation x = decode (cluster x) (x .syllable)
 abbrev pub operationsAt : List ℕ → ℕ → List Op
 operationsAt program i = map operation (instructionAt program i)
 
--- a walk from syllable to syllable: the spot of s after the spot x; before the first one stands an end
+-- a walk from syllable to syllable: the spot of s after the spot x; before the first one stands a last
 abbrev pub nextSpot : Spot → ℕ → Spot
-nextSpot x s =
-    let b = ends (x .syllable) in
-    record { first = b; opened = pick b 0 (x .opened) + bit (opens s); syllable = s }
+nextSpot x s = record { first = x .last; last = ends s; opened = pick (x .last) 0 (x .opened) + bit (opens s); syllable = s }
+
+abbrev pub beforeAll : Spot
+beforeAll = record { first = false; last = true; opened = 0; syllable = 0 }
 
 abbrev pub spotBefore : List ℕ → ℕ → Spot
-spotBefore program zero = record { first = false; opened = 0; syllable = 0x80000000 }
+spotBefore program zero = beforeAll
 spotBefore program (suc i) = spotAt program i

@@ -20,6 +20,10 @@ opens s = eqb (bits 30 30 s) 1
 abbrev pub opcode : ℕ → ℕ
 opcode s = bits 29 24 s
 
+-- "copy to t from s1 of the cluster in bits 1..0"
+abbrev pub source : ℕ → ℕ
+source s = bits 1 0 s
+
 -- the form of an opcode: what its fields are
 unfoldable pub formatOf : ℕ → Format
 formatOf o =

@@ -5,12 +5,14 @@ ghost use Rattle.isa.specs.Syllable.{bits, opcode};
 ghost use Rattle.isa.specs.Register.{general, branch};
 ghost use Rattle.isa.specs.Decode.{immediateOf, offsetOf, twoTo, decode};
 ghost use Rattle.isa.specs.declared.Way.the-variants.{Along};
+use crate::Destinations;
 use crate::Op;
 use crate::Way;
 use crate::control;
 use crate::syllable::bits;
 use crate::syllable::holds;
 use crate::syllable::opcode;
+use crate::syllable::source;
 use crate::syllable::within;
 
 // The number of general register r of cluster c: register 0 is one for all clusters.
@@ -200,7 +202,7 @@ pub fn copy(c: u32, s: u32) -> Op
 {
     computing(
         opcode(s),
-        general_at(bits(s, 1, 0), s, 12),
+        general_at(source(s), s, 12),
         0,
         0,
         0,
@@ -248,4 +250,45 @@ pub fn decode(c: u32, s: u32) -> Op
         return copy(c, s);
     }
     jump(c, s)
+}
+
+// What the operation writes its value to.
+fn written(c: u32, s: u32) -> u32
+    requires { ⌜ c < 4 ⌝ }
+    ensures { λ r. ⌜ r ≡ decode c s .t ⌝ }
+{
+    let o = opcode(s);
+    if within(40, 49, o) {
+        return branch_at(c, s, 18);
+    }
+    if o == 0 {
+        return 0;
+    }
+    if o <= 56 {
+        return general_at(c, s, 18);
+    }
+    if o == 60 { general_at(c, s, 18) } else { 0 }
+}
+
+// What addcg writes its carry to.
+fn carried(c: u32, s: u32) -> u32
+    requires { ⌜ c < 4 ⌝ }
+    ensures { λ r. ⌜ r ≡ decode c s .carry ⌝ }
+{
+    if opcode(s) == 23 {
+        branch_at(c, s, 6)
+    } else {
+        0
+    }
+}
+
+// The destinations alone, for who asks nothing else of the operation.
+pub fn destinations(c: u32, s: u32) -> Destinations
+    requires { ⌜ c < 4 ⌝ }
+    ensures { λ r. ⌜ r ≡ record { t = decode c s .t; carry = decode c s .carry } ⌝ }
+{
+    Destinations {
+        t: written(c, s),
+        carry: carried(c, s),
+    }
 }

@@ -4,10 +4,8 @@ pub mod decode;
 pub mod program;
 pub mod stretch;
 pub mod syllable;
-pub mod tables;
 pub mod touch;
-mod truth;
-pub mod zero;
+pub mod truth;
 
 // A syllable's index in the program.
 pub struct Place(pub usize);
@@ -39,9 +37,10 @@ pub enum Format {
     Fork,
 }
 
-// A syllable as it stands in a program: whether it is its instruction's first, and how many clusters are opened there with it.
+// A syllable as it stands in a program: whether it is its instruction's first, its last, and how many clusters are opened there with it.
 pub struct Spot {
     pub first: bool,
+    pub last: bool,
     pub opened: usize,
     pub syllable: u32,
 }
@@ -81,6 +80,12 @@ pub struct Op {
     pub t: u32,
     pub carry: u32,
     pub way: Way,
+}
+
+// What a syllable writes: registers by number, 0 where there is none.
+pub struct Destinations {
+    pub t: u32,
+    pub carry: u32,
 }
 
 // The five delays.

@@ -1,10 +1,12 @@
 // The syllables of one instruction, handed on as their own stretch of the program, without a copy; and the walk from spot to spot.
 ghost use mathlib.Core.Path.{_≡_};
 ghost use mathlib.Core.Bool.{true, false};
-ghost use Prim.Native.Nat.{_+_, _^_, _≤_, _<_};
+ghost use Prim.Native.Nat.{_+_, _-_, _^_, _≤_, _<_};
 ghost use lib.ListN.{length, getD};
 ghost use Rattle.word.specs.Bytes.{words};
-ghost use Rattle.isa.specs.Program.{isStart, spots, instructionAt, spotBefore, nextSpot, cluster, operation};
+ghost use Rattle.word.specs.Choice.{bit};
+ghost use Rattle.isa.specs.Syllable.{opens};
+ghost use Rattle.isa.specs.Program.{isStart, spots, instructionAt, beforeAll, nextSpot, cluster, operation};
 use crate::Op;
 use crate::Place;
 use crate::Slot;
@@ -34,13 +36,22 @@ pub fn syllable(stretch: &[u8], at: Slot) -> u32
 
 // Before the first spot of a walk.
 pub fn before_all() -> Spot
-    ensures { λ r. ⌜ r ≡ record { first = false; opened = 0; syllable = 0x80000000 } ⌝ }
+    ensures { λ r. ⌜ r ≡ beforeAll ⌝ }
 {
     Spot {
         first: false,
+        last: true,
         opened: 0,
-        syllable: 0x8000_0000,
+        syllable: 0,
     }
+}
+
+// How many clusters are opened with syllable s, after so many in its instruction.
+pub fn opened(before: usize, s: u32) -> usize
+    requires { ⌜ before < 2 ^ 63 ⌝ }
+    ensures { λ r. ⌜ r ≡ before + bit (opens s) ⌝ }
+{
+    before + opens(s) as usize
 }
 
 // The spot of syllable s after the spot x.
@@ -48,20 +59,32 @@ pub fn next_spot(x: Spot, s: u32) -> Spot
     requires { ⌜ x .opened < 2 ^ 63 ⌝ }
     ensures { λ r. ⌜ r ≡ nextSpot x s ⌝ }
 {
-    let first = ends(x.syllable);
-    let before = if first { 0 } else { x.opened };
+    let before = if x.last { 0 } else { x.opened };
     Spot {
-        first,
-        opened: before + opens(s) as usize,
+        first: x.last,
+        last: ends(s),
+        opened: opened(before, s),
         syllable: s,
     }
 }
 
 // The k-th set bit 30 opens cluster k-1.
+pub fn opened_by(k: usize) -> usize
+    requires { ⌜ 0 < k ⌝ }
+    ensures { λ r. ⌜ r ≡ k - 1 ⌝ }
+{
+    k - 1
+}
+
+// The cluster of a spot, also where none is opened before refusal 5 is tested.
 pub fn cluster(x: Spot) -> usize
     ensures { λ r. ⌜ r ≡ cluster x ⌝ }
 {
-    if x.opened == 0 { 0 } else { x.opened - 1 }
+    if x.opened == 0 {
+        0
+    } else {
+        opened_by(x.opened)
+    }
 }
 
 // What a spot's syllable asks for.

@@ -1,10 +1,10 @@
 // The fields of a syllable, by shifts and masks, and what its opcode asks for.
 ghost use mathlib.Core.Path.{_≡_};
 ghost use Prim.Native.Nat.{_≤_};
-ghost use Rattle.isa.specs.Syllable.{bits, ends, opens, opcode, formatOf, isAlu, isMul, isMem, isCopy, within};
+ghost use Rattle.isa.specs.Syllable.{bits, ends, opens, opcode, source, formatOf, isAlu, isMul, isMem, isCopy, within};
 ghost use lib.Dec.{eqb};
 use crate::Format;
-use crate::truth::either;
+use crate::truth::both;
 
 // Bits hi..lo.
 pub fn bits(s: u32, hi: u32, lo: u32) -> u32
@@ -40,6 +40,13 @@ pub fn opcode(s: u32) -> u32
     ensures { λ r. ⌜ r ≡ opcode s ⌝ }
 {
     bits(s, 29, 24)
+}
+
+// The cluster that a copy is from.
+pub fn source(s: u32) -> u32
+    ensures { λ r. ⌜ r ≡ source s ⌝ }
+{
+    bits(s, 1, 0)
 }
 
 // The form of opcode o.
@@ -92,7 +99,7 @@ pub fn within(first: u32, last: u32, o: u32) -> bool
 pub fn is_alu(o: u32) -> bool
     ensures { λ r. ⌜ r ≡ isAlu o ⌝ }
 {
-    either(within(1, 23, o), within(30, 51, o))
+    both(within(1, 51, o), !within(24, 29, o))
 }
 
 pub fn is_mul(o: u32) -> bool

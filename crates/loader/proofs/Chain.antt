@@ -12,14 +12,14 @@ use Rattle.word.specs.Bytes.{words}
 use Rattle.word.specs.Lists.{NoneBelow}
 use Rattle.word.proofs.Bytes.{words-length}
 use Rattle.word.proofs.Choice.{or-false}
-use Rattle.isa.specs.Syllable.{opcode, opens, isCopy}
+use Rattle.isa.specs.Syllable.{opcode, opens, source, isCopy}
 use Rattle.isa.specs.Control.{isControl}
 use Rattle.isa.specs.Lowest.{lowest}
 use Rattle.isa.specs.Program.{spotAt, cluster}
 use Rattle.isa.specs.declared.Found.{Found}
 use Rattle.isa.specs.declared.Found.the-variants.{Nothing}
 use Rattle.isa.proofs.Lowest.{lowest-is}
-use Rattle.loader.specs.Broken.{badProgramLength, source, badClusterAt}
+use Rattle.refusals.specs.Broken.{badProgramLength, badClusterAt}
 
 -- a test that found no place passes everywhere
 none-found : (f : ℕ → Bool) (n : ℕ) → lowest f n ≡ Nothing → NoneBelow f n

@@ -3,7 +3,3 @@ pub mod Counts
 pub mod Ways
 pub mod Taken
 pub mod Chain
-pub mod Walks
-pub mod Turns
-pub mod Takes
-pub mod Stamps

@@ -6,12 +6,12 @@ use Prim.Native.Nat.{ℕ}
 use Rattle.word.specs.Bytes.{words}
 use Rattle.word.specs.Lists.{NoneBelow}
 use Rattle.isa.specs.Lowest.{lowest}
-use Rattle.isa.specs.Table.{badTable, tableOf}
 use Rattle.isa.specs.declared.Found.{Found}
 use Rattle.isa.specs.declared.Found.the-variants.{At, Nothing}
 use Rattle.isa.specs.declared.Place.{Place}
 use Rattle.isa.specs.declared.Table.{Table}
 use Rattle.isa.proofs.Lowest.{lowest-is}
+use Rattle.tables.specs.Table.{badTable, tableOf}
 use Rattle.loader.specs.Load.{_otherwise_, refusedIf, refusedAt, testedBy, loadedWith}
 use Rattle.loader.specs.Passed.{Passed}
 use Rattle.loader.specs.declared.Refusal.{Refusal}

@@ -21,10 +21,11 @@ use Rattle.isa.specs.declared.Place.{Place}
 use Rattle.isa.specs.declared.Found.{Found}
 use Rattle.isa.specs.declared.Found.the-variants.{At}
 use Rattle.isa.specs.declared.Table.{Table}
-use Rattle.isa.proofs.Instructions.{spot-syllable, start-inside, start-zero, opened-first, opened-next, following-ends, following-within, following-here, next-start, between, instruction-at}
-use Rattle.loader.specs.Broken.{noEndAt, badClusterAt, overfull, tooWideAt, twoWritesAt, misses, leaving, badControlAt}
+use Rattle.isa.proofs.Instructions.{spot-syllable, spot-last, start-inside, start-zero, opened-first, opened-next, following-ends, following-within, following-here, next-start, between, instruction-at}
+use Rattle.refusals.specs.Broken.{noEndAt, badClusterAt, overfull, tooWideAt, twoWritesAt, misses, leaving, badControlAt}
 use Rattle.loader.specs.Passed.{Passed}
 use Rattle.loader.proofs.Counts.{length-classes}
+use Rattle.refusals.proofs.Last.{last-is}
 use Rattle.loader.proofs.Ways.{controlsIn, Next, aimed, follows, next-is}
 
 -- what a test that fails says where its first part passes
@@ -50,16 +51,10 @@ each-of p i b P h x m =
 pub record Placed (table : Table) (p : List ℕ) (j : ℕ) : Type 0 where
   pub first-opens : isStart p j ≡ true → opens (getD p j 0) ≡ true
   pub opened-most : spotAt p j .opened ≤ table .clusters
-  pub control-first : isControl (getD p j 0) ≡ true → cluster (spotAt p j) ≡ 0
   pub target-starts : {t : Place} → targetOf (wayOf (getD p j 0)) ≡ At t → isStart p (t .0) ≡ true
-  pub stop-whole : solitary (wayOf (getD p j 0)) ≡ true → (isStart p j ≡ true) × (ends (getD p j 0) ≡ true)
   pub last-leaves : isStart p j ≡ true → following p j ≡ length p → any leaving (instructionAt p j) ≡ true
 
 module _ {table : Table} {p : List ℕ} (ok : Passed table p) where
-  pub last-ends : 0 < length p → ends (getD p (length p - 1) 0) ≡ true
-  unfolding noEndAt
-  last-ends h = let i : ℕ = length p - 1 in kept _ _ (ok .noEnd i (omega arith)) (eq-eqb (suc i) (length p) (omega arith))
-
   -- ---- a syllable
 
   pub placed : (j : ℕ) → j < length p → Placed table p j
@@ -68,15 +63,13 @@ module _ {table : Table} {p : List ℕ} (ok : Passed table p) where
       let (more, copy) = or-false _ _ (rw (spot-syllable p j) at (ok .badCluster j h)) in
       let (more, control) = or-false _ _ more in
       let (first, opened) = or-false _ _ more in
-      let (more, last) = or-false _ _ (rw (spot-syllable p j) at (ok .badControl j h)) in
+      let (more, last) = or-false _ _ (rw (spot-syllable p j, spot-last p j) at (ok .badControl j h)) in
       let (goal, stop) = or-false _ _ more in
       record {
         first-opens = kept _ _ first;
         opened-most = ltb-false _ _ opened;
-        control-first = λ e. eqb-true _ _ (kept _ _ control e);
         target-starts = λ e. aims (isStart p) _ goal e;
-        stop-whole = λ e. and-true _ _ (kept _ _ stop e);
-        last-leaves = λ s e. kept _ _ (rw s at last) (eq-eqb _ _ e);
+        last-leaves = λ s e. kept _ _ last (last-is p j s e);
       }
 
   start-opened : (i : ℕ) → isStart p i ≡ true → spotAt p i .opened ≡ 1
@@ -99,9 +92,6 @@ module _ {table : Table} {p : List ℕ} (ok : Passed table p) where
   module _ (i : ℕ) (s : isStart p i ≡ true) where
     inside : i < length p
     inside = start-inside p i s
-
-    pub instruction-ends : ends (getD p (following p i - 1) 0) ≡ true
-    instruction-ends = following-ends p i inside (last-ends (omega (arith, inside)))
 
     uncrowded : (anyBelow (overfull table (instructionAt p i)) (table .clusters) ≡ false) × (ltb 1 (controlsIn (instructionAt p i)) ≡ false)
     unfolding tooWideAt
@@ -129,14 +119,6 @@ module _ {table : Table} {p : List ℕ} (ok : Passed table p) where
 
     pub distinct : Pairwise _≢_ (destinations (operationsAt p i))
     distinct = repeats-false _ unrepeated
-
-    pub stop-alone : (j : ℕ) → i ≤ j → j < following p i → solitary (wayOf (getD p j 0)) ≡ true → (j ≡ i) × (following p i ≡ suc i)
-    stop-alone j a b e =
-        let (first, end) = placed j (omega (arith, following-within p i inside)) .stop-whole e in
-        ⊎-elim
-        (λ (q : i ≡ j). (sym q, following-here p i inside (rw q end)))
-        (λ l. absurd (never-both first (between p i j inside l b)))
-        (eq-or-lt-of-le a)
 
     pub onward : {t : ℕ} → List·Memᴰ t (nexts (following p i) (operationsAt p i)) → isStart p t ≡ true
     onward {t} m = by (next-is (following p i) (instructionAt p i) one-control m)

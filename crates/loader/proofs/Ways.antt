@@ -15,7 +15,7 @@ use Rattle.isa.specs.declared.Way.{Way}
 use Rattle.isa.specs.declared.Way.the-variants.{Along, Stop, Goto, Branch}
 use Rattle.isa.specs.declared.Found.the-variants.{At}
 use Rattle.isa.proofs.Decoded.{decode-way}
-use Rattle.loader.specs.Broken.{leaving}
+use Rattle.refusals.specs.Broken.{leaving}
 use Rattle.loader.proofs.Counts.{count-some}
 
 abbrev pub controlsIn : List Spot → ℕ

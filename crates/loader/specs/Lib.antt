@@ -1,4 +1,3 @@
-pub mod Broken
 pub mod Load
 pub mod Answer
 pub mod Passed

@@ -8,10 +8,10 @@ use Rattle.isa.specs.Lowest.{lowest}
 use Rattle.word.specs.Bytes.{words}
 use Rattle.isa.specs.declared.Found.{Found}
 use Rattle.isa.specs.declared.Found.the-variants.{At, Nothing}
-use Rattle.isa.specs.Table.{badTable, tableOf}
 use Rattle.isa.specs.declared.Place.{Place}
 use Rattle.isa.specs.declared.Table.{Table}
-use Rattle.loader.specs.Broken.{badProgramLength, badRoomLength, noEndAt, badBitsAt, badClusterAt, tooWideAt, twoWritesAt, badControlAt}
+use Rattle.tables.specs.Table.{badTable, tableOf}
+use Rattle.refusals.specs.Broken.{badProgramLength, badRoomLength, noEndAt, badBitsAt, badClusterAt, tooWideAt, twoWritesAt, badControlAt}
 use Rattle.loader.specs.declared.Refusal.{Refusal}
 use Rattle.loader.specs.declared.Refusal.the-variants.{BadTable, ProgramLength, RoomLength, NoEnd, BadBits, BadCluster, TooWide, TwoWrites, BadControl}
 use Rattle.loader.specs.declared.Loaded.{Loaded}

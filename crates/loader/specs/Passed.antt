@@ -4,7 +4,7 @@ use Prim.Native.Nat.{ℕ}
 use lib.ListN.{length}
 use Rattle.word.specs.Lists.{NoneBelow}
 use Rattle.isa.specs.declared.Table.{Table}
-use Rattle.loader.specs.Broken.{noEndAt, badBitsAt, badClusterAt, tooWideAt, twoWritesAt, badControlAt}
+use Rattle.refusals.specs.Broken.{noEndAt, badBitsAt, badClusterAt, tooWideAt, twoWritesAt, badControlAt}
 
 -- what a program has passed under 3 to 8
 pub record Passed (table : Table) (program : List ℕ) : Type 0 where

@@ -1,9 +1,6 @@
 // Loading: every program is taken, or refused with its number and place.
 pub mod answers;
-mod control;
-mod instructions;
 mod numbers;
-mod syllables;
 
 use isa::Place;
 pub use numbers::bad_program_length;

@@ -2,22 +2,21 @@
 ghost use mathlib.Core.Path.{_≡_};
 ghost use mathlib.Core.Bool.{false};
 ghost use Rattle.word.specs.Bytes.{words};
-ghost use Rattle.isa.specs.Bounds.{Bounds};
-ghost use Rattle.loader.specs.Broken.{badProgramLength, badRoomLength};
+ghost use Rattle.tables.specs.Bounds.{Bounds};
+ghost use Rattle.refusals.specs.Broken.{badProgramLength, badRoomLength};
 ghost use Rattle.loader.specs.Load.{_otherwise_, refusedIf, testedBy, loadedWith, loadedOf};
 ghost use Rattle.loader.specs.declared.Refusal.the-variants.{ProgramLength, RoomLength};
 ghost use Rattle.loader.specs.declared.Loaded.the-variants.{Good};
 use crate::Loaded;
 use crate::Refusal;
-use crate::control::bad_control;
-use crate::instructions::too_wide;
-use crate::instructions::two_writes;
-use crate::syllables::bad_bits;
-use crate::syllables::bad_cluster;
-use crate::syllables::no_end;
 use isa::Found;
 use isa::Table;
-use isa::tables;
+use refusals::control::bad_control;
+use refusals::instructions::too_wide;
+use refusals::instructions::two_writes;
+use refusals::syllables::bad_bits;
+use refusals::syllables::bad_cluster;
+use refusals::syllables::no_end;
 
 // 3 to 8, of a program with a good size: each is tested over the whole program before the next.
 fn tested(table: Table, program: &[u8]) -> Loaded

@@ -28,7 +28,7 @@ use Rattle.machine.specs.Instruction.{instructionOf}
 use Rattle.machine.specs.State.{registersOf, Sized}
 use Rattle.machine.specs.declared.State.{State}
 use Rattle.ticks.specs.Ticks.{views}
-use Rattle.run.specs.Turn.{Returned}
+use Rattle.run.specs.Loop.{Returned}
 use Rattle.run.specs.declared.Left.{Left}
 use Rattle.outcomes.specs.OneOutcome.{OneOutcome}
 use Rattle.outcomes.proofs.States.{place-is, state-is}

@@ -4,6 +4,9 @@ pub mod States
 pub mod Word
 pub mod Ops
 pub mod Isa
+pub mod Tables
+pub mod Zero
+pub mod Refusals
 pub mod Loader
 pub mod Schedule
 pub mod Memory

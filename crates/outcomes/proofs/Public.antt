@@ -4,6 +4,9 @@ use Rattle.outcomes.specs.Public.{Public}
 use Rattle.outcomes.proofs.Word.{word}
 use Rattle.outcomes.proofs.Ops.{ops}
 use Rattle.outcomes.proofs.Isa.{isa}
+use Rattle.outcomes.proofs.Tables.{tables}
+use Rattle.outcomes.proofs.Zero.{zero}
+use Rattle.outcomes.proofs.Refusals.{refusals}
 use Rattle.outcomes.proofs.Loader.{loader}
 use Rattle.outcomes.proofs.Schedule.{schedule}
 use Rattle.outcomes.proofs.Memory.{memory}
@@ -19,6 +22,9 @@ public = record {
   word = word;
   ops = ops;
   isa = isa;
+  tables = tables;
+  zero = zero;
+  refusals = refusals;
   loader = loader;
   schedule = schedule;
   memory = memory;

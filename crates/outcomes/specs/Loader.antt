@@ -3,8 +3,8 @@ use mathlib.Core.Bool.{Bool}
 use mathlib.Core.List.{List}
 use mathlib.Core.Path.{_≡_}
 use Prim.Native.Nat.{ℕ}
+use Rattle.refusals.specs.Broken.{badProgramLength}
 use Rattle.loader.specs.Answer.{loadAnswer, refusalAnswer, roomWith}
-use Rattle.loader.specs.Broken.{badProgramLength}
 use Rattle.loader.specs.Load.{loadedOf, loadedWith}
 use Rattle.loader.specs.declared.Answer.{Answer}
 use Rattle.loader.specs.declared.Loaded.{Loaded}

@@ -3,6 +3,9 @@ use Rattle.outcomes.specs.OneOutcome.{OneOutcome}
 use Rattle.outcomes.specs.Word.{Word}
 use Rattle.outcomes.specs.Ops.{Ops}
 use Rattle.outcomes.specs.Isa.{Isa}
+use Rattle.outcomes.specs.Tables.{Tables}
+use Rattle.outcomes.specs.Zero.{Zero}
+use Rattle.outcomes.specs.Refusals.{Refusals}
 use Rattle.outcomes.specs.Loader.{Loader}
 use Rattle.outcomes.specs.Schedule.{Schedule}
 use Rattle.outcomes.specs.Memory.{Memory}
@@ -17,6 +20,9 @@ pub record Public : Type 0 where
   pub word : Word
   pub ops : Ops
   pub isa : Isa
+  pub tables : Tables
+  pub zero : Zero
+  pub refusals : Refusals
   pub loader : Loader
   pub schedule : Schedule
   pub memory : Memory

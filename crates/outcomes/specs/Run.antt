@@ -13,7 +13,7 @@ use Rattle.memory.specs.Memory.{store}
 use Rattle.machine.specs.Instruction.{instructionOf}
 use Rattle.machine.specs.State.{registersOf}
 use Rattle.machine.specs.declared.State.{State}
-use Rattle.run.specs.Turn.{Returned}
+use Rattle.run.specs.Loop.{Returned}
 use Rattle.run.specs.declared.Left.{Left}
 use Rattle.outcomes.specs.OneOutcome.{OneOutcome}
 

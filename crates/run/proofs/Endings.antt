@@ -2,27 +2,34 @@
 use mathlib.Core.Path.{_≡_, refl, sym, _∙_, ap}
 use mathlib.Core.Bool.{false, _&&_}
 use mathlib.Core.List.{List, map}
-use Prim.Native.Nat.{ℕ, suc, _+_, _-_, _≤_, _<_}
+use Prim.Native.Nat.{ℕ, suc, _+_, _*_, _-_, _≤_, _<_}
 use native.Mathlib.Omega.{arith}
 use native.Mathlib.Nat.{add-zero, zero-add, sub-zero}
+use mir.Syntax.{w64}
+use mir.Val.{Fits}
 use lib.Dec.{eqb}
-use lib.ListN.{drop}
+use lib.ListN.{length, drop}
 use borrow.Author.Tests.{eqb-true, not-false}
 use Rattle.word.specs.Lists.{anyBelow}
 use Rattle.word.proofs.Choice.{or-false, and-true}
 use Rattle.word.proofs.Lists.{anyBelow-false}
-use Rattle.vliw.specs.Run.{Step, ends, next, run}
+use Rattle.vliw.specs.Run.{Step, ends, next, Ran, run}
 use Rattle.vliw.specs.Cell.{Registers, at, rested}
 use Rattle.vliw.specs.Machine.{Situation, inOrder, step}
 use Rattle.vliw.specs.declared.Ending.{Ending}
 use Rattle.vliw.specs.declared.Ending.the-variants.{Paused, Stopped, Faulted}
+use Rattle.isa.specs.declared.Count.{Count}
 use Rattle.isa.specs.declared.Delays.{Delays}
+use Rattle.isa.specs.declared.Place.{Place}
 use Rattle.memory.specs.Memory.{Store, store}
 use Rattle.machine.specs.Instruction.{instructionOf}
 use Rattle.machine.specs.State.{registersOf, Sized}
 use Rattle.machine.specs.Valid.{allZero, badRegister}
 use Rattle.ticks.specs.Ticks.{views, Bank}
-use Rattle.run.specs.Turn.{situationAt, endedBy, Finished, after, Returned, leftAt}
+use Rattle.turn.specs.Turn.{situationAt, endedBy, Running, Room, Moved, Turned}
+use Rattle.run.specs.Loop.{Finished, after, Returned, leftAt}
+use Rattle.turn.specs.declared.Stepped.{Stepped}
+use Rattle.turn.specs.declared.Stepped.the-variants.{On, Off}
 use Rattle.run.specs.declared.Ended.{Ended}
 use Rattle.run.specs.declared.Left.{Left}
 use Rattle.ticks.proofs.Views.{bank-later, views-rested}
@@ -47,6 +54,37 @@ run-begun f n s = rw (sub-zero, zero-add)
 pub run-paused : (f : Situation (List ℕ) Store → Step (Situation (List ℕ) Store)) (n k : ℕ) (s : Situation (List ℕ) Store) → n ≤ k
     → after k (run f (n - k) s) ≡ record { ending = Paused; count = k; state = s }
 run-paused f n k s h = let p : n - k ≡ 0 = omega arith in rw (p, add-zero)
+
+-- where the loop stands after a turn that went on, from where it stood before it
+pub loop-on : (d : Delays) (p landing m₀ m : List ℕ) {vs os rs ls gs xs ds ps ws ns : List ℕ} (n k i used taken : ℕ) (to : Place) (from : Situation (List ℕ) Store)
+    (o : Ran (Situation (List ℕ) Store)) (r : Stepped)
+    → k < n → used ≤ 64 * k → o ≡ after k (run (step store (instructionOf d p)) (n - k) from)
+    → r ≡ On to taken → Turned d p landing k i used from r vs os rs ls m → length m ≡ length m₀ → Room gs xs ds ps ws ns
+    → (k + 1 ≤ n) × (used + taken ≤ 64 * (k + 1)) × (length m ≡ length m₀) × Running (k + 1) p (to .0) vs os rs ls × Room gs xs ds ps ws ns
+    × (o ≡ after (k + 1) (run (step store (instructionOf d p)) (n - (k + 1)) (situationAt (to .0) (views (k + 1) vs os rs ls) m landing (used + taken))))
+loop-on d p landing m₀ m n k i used taken to from o r less took is went turned long room =
+    let t = rw went at turned in
+    (omega arith, omega (arith, took, t .few), long, t .running, room, is ∙ turn-next _ n k from _ less (t .is))
+
+-- numbers of the loop, by themselves: beside all that it knows each is dear
+pub few-bytes : (n k used : ℕ) {taken : ℕ} {d : Delays} {p landing vs os rs ls m : List ℕ} {to : Place} {s : Situation (List ℕ) Store}
+    → k < n → n < 4294967296 → used ≤ 64 * k → Moved d p landing k used s (to .0) taken vs os rs ls m → Fits w64 (used + taken)
+few-bytes n k used less small took t = omega (arith, t .few)
+
+pub next-fits : (n k : ℕ) → k < n → n < 4294967296 → Fits w64 (k + 1)
+next-fits n k less small = omega arith
+
+pub fewer-left : (n k : ℕ) → k < n → n - (k + 1) < n - k
+fewer-left n k less = omega arith
+
+-- a turn that ended the run finishes it
+pub loop-off : (d : Delays) (p landing : List ℕ) {vs os rs ls m : List ℕ} (n : ℕ) (e : Ending) (done : Count) (at : Place) (used : ℕ) (s from : Situation (List ℕ) Store) (r : Stepped)
+    → done .0 < n → run (step store (instructionOf d p)) n s ≡ after (done .0) (run (step store (instructionOf d p)) (n - done .0) from)
+    → r ≡ Off e → Turned d p landing (done .0) (at .0) used from r vs os rs ls m
+    → Finished d p landing n s (record { ending = e; count = done; place = at }) vs os rs ls m
+loop-off d p landing n e done at used s from r less is went turned =
+    let t = rw went at turned in
+    record { few = omega arith; bank = t .running .bank; start = t .running .start; used = used; is = is ∙ turn-last _ n (done .0) from _ less e (t .is) }
 
 -- ---- the state that it leaves
 

@@ -1,4 +1,2 @@
 -- Laws of the run.
-pub mod Steps
-pub mod Turns
 pub mod Endings

@@ -16,9 +16,10 @@ use Rattle.vliw.specs.Machine.{Dest}
 use Rattle.vliw.specs.Schedule.{Reach}
 use Rattle.isa.specs.Syllable.{formatOf}
 use Rattle.isa.specs.Decode.{decode}
-use Rattle.isa.specs.Table.{tableOf}
 use Rattle.isa.specs.declared.Delays.{Delays}
-use Rattle.schedule.specs.Rule.{destsAt, nextsAt, usesAt, TooSoonAt}
+use Rattle.tables.specs.Table.{tableOf}
+use Rattle.reach.specs.Nexts.{nextsAt}
+use Rattle.schedule.specs.Rule.{destsAt, usesAt, TooSoonAt}
 use Rattle.schedule.specs.declared.Verdict.the-variants.{Good}
 use Rattle.samples.specs.Schedules.{delays, two, three, self, SaidOf, tooSoon, Examples}
 

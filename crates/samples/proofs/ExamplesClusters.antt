@@ -16,11 +16,11 @@ use Rattle.vliw.specs.Machine.{Situation}
 use Rattle.ops.specs.Value.{value, carry, address, loaded, stored}
 use Rattle.isa.specs.Syllable.{formatOf}
 use Rattle.isa.specs.Control.{wayOf}
-use Rattle.isa.specs.Zero.{badBits}
 use Rattle.isa.specs.Decode.{decode}
-use Rattle.isa.specs.Table.{badTable, tableOf}
 use Rattle.isa.specs.declared.Delays.{Delays}
-use Rattle.loader.specs.Broken.{noEndAt, badBitsAt, badClusterAt, tooWideAt, twoWritesAt, badControlAt}
+use Rattle.tables.specs.Table.{badTable, tableOf}
+use Rattle.zero.specs.Zero.{badBits}
+use Rattle.refusals.specs.Broken.{noEndAt, badBitsAt, badClusterAt, tooWideAt, twoWritesAt, badControlAt}
 use Rattle.loader.specs.Load.{testedBy, loadedWith, loadedOf}
 use Rattle.loader.specs.Answer.{answer, answered, roomWith}
 use Rattle.loader.specs.declared.Loaded.the-variants.{Good}

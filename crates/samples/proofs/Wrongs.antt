@@ -9,10 +9,10 @@ use borrow.Author.Tests.{eqb-true, eq-eqb}
 use Rattle.word.proofs.Choice.{by-test, never-both}
 use Rattle.isa.specs.Syllable.{formatOf}
 use Rattle.isa.specs.Control.{wayOf}
-use Rattle.isa.specs.Zero.{badBits}
 use Rattle.isa.specs.Decode.{decode}
-use Rattle.isa.specs.Table.{badTable, tableOf}
-use Rattle.loader.specs.Broken.{noEndAt, badBitsAt, badClusterAt, tooWideAt, twoWritesAt, badControlAt}
+use Rattle.tables.specs.Table.{badTable, tableOf}
+use Rattle.zero.specs.Zero.{badBits}
+use Rattle.refusals.specs.Broken.{noEndAt, badBitsAt, badClusterAt, tooWideAt, twoWritesAt, badControlAt}
 use Rattle.loader.specs.Load.{testedBy, loadedWith, loadedOf}
 use Rattle.loader.specs.Answer.{RoomOutcome, answered, loadOutcome}
 use Rattle.loader.specs.declared.Loaded.the-variants.{Good}

@@ -3,8 +3,8 @@ use mathlib.Core.List.{List, [], _∷_}
 use Prim.Native.Nat.{ℕ}
 use Rattle.word.specs.Bytes.{words}
 use Rattle.isa.specs.Control.{place}
-use Rattle.isa.specs.Table.{tableOf}
 use Rattle.isa.specs.declared.Delays.{Delays}
+use Rattle.tables.specs.Table.{tableOf}
 use Rattle.schedule.specs.Rule.{Says}
 use Rattle.schedule.specs.declared.Verdict.{Verdict}
 use Rattle.schedule.specs.declared.Verdict.the-variants.{Good, TooSoon}

@@ -8,9 +8,9 @@ use Rattle.word.specs.Bytes.{words}
 use Rattle.vliw.specs.Run.{Ran, run}
 use Rattle.vliw.specs.Cell.{Registers, at}
 use Rattle.vliw.specs.Machine.{Situation, inOrder, step}
-use Rattle.isa.specs.Table.{tableOf}
 use Rattle.isa.specs.declared.Table.{Table}
 use Rattle.isa.specs.Program.{isStart}
+use Rattle.tables.specs.Table.{tableOf}
 use Rattle.loader.specs.Load.{loadedWith}
 use Rattle.loader.specs.Answer.{roomWith}
 use Rattle.loader.specs.declared.Answer.{Answer}
@@ -24,7 +24,7 @@ use Rattle.machine.specs.Valid.{badRegister, badState}
 use Rattle.call.specs.Reply.{replyAnswer}
 use Rattle.call.specs.Run.{Call, Outcome, Done, ranOf, refused, ended, doneBy, sizesOf, doneOf, runOutcome}
 use Rattle.call.specs.declared.Reply.the-variants.{BadState, Ended}
-use Rattle.run.specs.Turn.{Returned}
+use Rattle.run.specs.Loop.{Returned}
 use Rattle.run.specs.declared.Left.{Left}
 
 module _ (c : Call) where

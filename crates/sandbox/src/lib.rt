@@ -7,12 +7,12 @@ ghost use Rattle.schedule.specs.Answer.{Answers, Checks};
 mod runs;
 
 use call::replies::of_reply;
-use isa::tables::read;
 use loader::Answer;
 use loader::Loaded;
 use loader::answers;
 use runs::call;
 use schedule::answers::of_verdict;
+use tables::read;
 
 // Loads a program under a delay table: the answer in the room, and its number returned.
 #[no_mangle]

@@ -4,15 +4,14 @@ ghost use mathlib.Core.List.{List};
 ghost use Prim.Native.Nat.{ℕ, _≤_};
 ghost use lib.ListN.{length};
 ghost use Rattle.word.specs.Bytes.{words};
-ghost use Rattle.isa.specs.Table.{tableOf};
-ghost use Rattle.isa.specs.Bounds.{Bounds};
+ghost use Rattle.tables.specs.Table.{tableOf};
+ghost use Rattle.tables.specs.Bounds.{Bounds};
 ghost use Rattle.loader.specs.declared.Loaded.the-variants.{Good};
 ghost use Rattle.loader.specs.Passed.{Passed};
 ghost use Rattle.call.specs.Run.{sizesOf, doneBy, doneOf};
 use call::Reply;
 use isa::Count;
 use isa::program::is_start;
-use isa::tables::read;
 use loader::Loaded;
 use loader::Refusal;
 use loader::bad_program_length;
@@ -20,6 +19,7 @@ use loader::load_with;
 use machine::image;
 use machine::valid::bad_registers;
 use run::run;
+use tables::read;
 
 // 2, for run: the program, the memory, the state image, then the room.
 fn sizes(program: &[u8], memory: &[u8], state: &[u8], room: &[u8]) -> Loaded

@@ -8,16 +8,17 @@ use lib.ListN.{length, getD, take}
 use lib.Seq.{take-all}
 use Rattle.word.specs.Bytes.{words}
 use Rattle.word.proofs.Bytes.{words-length}
-use Rattle.isa.specs.Bounds.{Bounds}
 use Rattle.isa.specs.Program.{nowhere, spots, spotAt, isStart, instructionAt, following, cluster, operation}
 use Rattle.isa.specs.declared.Spot.{Spot}
 use Rattle.isa.specs.declared.Table.{Table}
 use Rattle.isa.proofs.Decoded.{decoded}
 use Rattle.isa.proofs.Instructions.{spots-length, start-inside, following-within, instruction-length, instruction-at}
 use Rattle.isa.proofs.Ways.{operations, operations-size}
+use Rattle.tables.specs.Bounds.{Bounds}
 use Rattle.loader.specs.Passed.{Passed}
 use Rattle.loader.proofs.Taken.{in-cluster, short, onward}
-use Rattle.schedule.specs.Laid.{Laid, Decodable}
+use Rattle.reach.specs.Laid.{Laid}
+use Rattle.schedule.specs.Decodable.{Decodable}
 use Rattle.schedule.specs.Stamps.{Registers}
 
 pub laid : {table : Table} {p : List ℕ} → Bounds table → Passed table p → Laid p

@@ -2,8 +2,5 @@ pub mod Laid
 pub mod Keeping
 pub mod Naming
 pub mod Stamps
-pub mod Growing
-pub mod Reaching
-pub mod Few
 pub mod Soon
 pub mod Once

@@ -4,9 +4,9 @@ use mathlib.Core.List.{List}
 use Prim.Native.Nat.{ℕ}
 use native.Mathlib.Omega.{arith}
 use Rattle.word.specs.Bytes.{words}
-use Rattle.isa.specs.Table.{tableOf}
 use Rattle.isa.specs.declared.Delays.{Delays}
 use Rattle.isa.specs.declared.Place.{Place}
+use Rattle.tables.specs.Table.{tableOf}
 use Rattle.loader.specs.Load.{loadedOf}
 use Rattle.loader.specs.declared.Answer.{Answer}
 use Rattle.loader.specs.Answer.{RoomOutcome, answered}

@@ -15,11 +15,12 @@ use Rattle.isa.specs.Program.{isStart, following, operationsAt}
 use Rattle.isa.specs.Touch.{reads, results, destinations}
 use Rattle.isa.specs.declared.Delays.{Delays}
 use Rattle.isa.proofs.Instructions.{between}
-use Rattle.schedule.specs.Rule.{nextsAt, destsAt, usesAt, TooSoonAt}
+use Rattle.reach.specs.Nexts.{nextsAt}
+use Rattle.reach.specs.Near.{Near, placeAt, stepsAt, Reaches}
+use Rattle.reach.proofs.Growing.{low-or-high}
+use Rattle.schedule.specs.Rule.{destsAt, usesAt, TooSoonAt}
 use Rattle.schedule.specs.Late.{lateAt, LateOf}
-use Rattle.schedule.specs.Near.{Near, placeAt, stepsAt, Reaches}
 use Rattle.schedule.specs.declared.late.Late.{Late}
-use Rattle.schedule.proofs.Growing.{low-or-high}
 
 -- the a-th place touches the b-th result before it is there
 abbrev pub Soon : List ℕ → List ℕ → List ℕ → Near → ℕ → ℕ → Type 0

@@ -3,7 +3,7 @@ use mathlib.Core.Path.{_≡_}
 use mathlib.Core.List.{List}
 use Prim.Native.Nat.{ℕ}
 use Rattle.word.specs.Bytes.{words}
-use Rattle.isa.specs.Table.{tableOf}
+use Rattle.tables.specs.Table.{tableOf}
 use Rattle.loader.specs.Load.{loadedOf}
 use Rattle.loader.specs.declared.Answer.{Answer}
 use Rattle.loader.specs.Answer.{answer, refusalAnswer, RoomOutcome, answered}

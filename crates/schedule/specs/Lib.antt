@@ -1,6 +1,5 @@
 pub mod Rule
-pub mod Laid
+pub mod Decodable
 pub mod Late
 pub mod Stamps
-pub mod Near
 pub mod Answer

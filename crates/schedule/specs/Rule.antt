@@ -3,14 +3,12 @@ use mathlib.Core.List.{List, _++_, map}
 use Prim.Native.Nat.{ℕ, _≤_}
 use Rattle.vliw.specs.Machine.{Dest}
 use Rattle.vliw.specs.Schedule.{TouchesTooSoon}
-use Rattle.isa.specs.Program.{isStart, operationsAt, following}
-use Rattle.isa.specs.Touch.{reads, dests, nexts}
+use Rattle.isa.specs.Program.{isStart, operationsAt}
+use Rattle.isa.specs.Touch.{reads, dests}
 use Rattle.isa.specs.declared.Delays.{Delays}
+use Rattle.reach.specs.Nexts.{nextsAt}
 use Rattle.schedule.specs.declared.Verdict.{Verdict}
 use Rattle.schedule.specs.declared.Verdict.the-variants.{Good, TooSoon}
-
-abbrev pub nextsAt : List ℕ → ℕ → List ℕ
-nextsAt program i = nexts (following program i) (operationsAt program i)
 
 module _ (d : Delays) (program : List ℕ) where
   abbrev pub destsAt : ℕ → List Dest

@@ -7,7 +7,7 @@ ghost use Rattle.word.specs.Bytes.{words};
 ghost use Rattle.vliw.specs.Machine.{Dest};
 ghost use Rattle.isa.specs.Program.{spots, operation};
 ghost use Rattle.isa.specs.Touch.{delayOf, dests};
-ghost use Rattle.schedule.specs.Laid.{Decodable};
+ghost use Rattle.schedule.specs.Decodable.{Decodable};
 ghost use Rattle.schedule.specs.Late.{LateOf, made};
 use isa::Delays;
 use isa::Slot;

@@ -1,6 +1,6 @@
 // The schedule check: a schedule is refused exactly if some path touches a result too soon.
 ghost use Rattle.word.specs.Bytes.{words};
-ghost use Rattle.isa.specs.Bounds.{Bounds};
+ghost use Rattle.tables.specs.Bounds.{Bounds};
 ghost use Rattle.loader.specs.Passed.{Passed};
 ghost use Rattle.schedule.specs.Rule.{Says};
 use isa::Place;
@@ -14,7 +14,6 @@ use touches::touches;
 
 pub mod answers;
 mod late;
-mod reach;
 mod touches;
 
 // The lowest producer and, for it, the lowest consumer.

@@ -7,7 +7,7 @@ ghost use lib.ListN.{length, getD};
 ghost use Rattle.word.specs.Bytes.{words};
 ghost use Rattle.word.specs.Lists.{any};
 ghost use Rattle.isa.specs.Program.{spots, operation};
-ghost use Rattle.schedule.specs.Laid.{Decodable};
+ghost use Rattle.schedule.specs.Decodable.{Decodable};
 ghost use Rattle.schedule.specs.Stamps.{names, Registers, Stamped};
 use isa::Op;
 use isa::Place;

@@ -1,8 +1,2 @@
-pub mod Digits
-pub mod Finding
-pub mod Firsts
-pub mod Programs
-pub mod Tables
-pub mod Heads
 pub mod Puts
 pub mod Outputs

@@ -10,12 +10,12 @@ use borrow.Author.Tests.{lt-ltb, le-ltb}
 use Rattle.word.proofs.Bytes.{sets-append}
 use Rattle.call.specs.Run.{Call, Outcome, runOutcome}
 use Rattle.text.specs.Rows.{fields}
-use Rattle.text.specs.Lines.{newline, pieces, firstLine, Read, Good, fromFirst, readText}
-use Rattle.text.specs.Items.{saidIn, held, Kept}
+use Rattle.lines.specs.Lines.{newline, pieces, firstLine, Read, Good, fromFirst, readText}
+use Rattle.lines.specs.Items.{saidIn, held, Kept}
 use Rattle.text.specs.Output.{Unread, Loads, Runs, callOf, tooMuch, endingOf, printedOf, printed, shownOf, Put}
 use Rattle.text.specs.declared.Shown.{Shown}
-use Rattle.text.specs.declared.reading.Reading.{Reading}
-use Rattle.text.specs.declared.reading.Sizes.{Sizes}
+use Rattle.lines.specs.declared.reading.Reading.{Reading}
+use Rattle.lines.specs.declared.reading.Sizes.{Sizes}
 use Rattle.text.proofs.Puts.{fields-length}
 
 -- line 1 alone

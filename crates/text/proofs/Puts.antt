@@ -9,7 +9,7 @@ use lib.Seq.{sets, set-comm}
 use borrow.Author.Tests.{ne-eqb}
 use Rattle.word.proofs.Bytes.{sets-append}
 use Rattle.vliw.specs.Cell.{landedOf}
-use Rattle.text.specs.Digits.{digit, hex}
+use Rattle.lines.specs.Digits.{digit, hex}
 use Rattle.text.specs.Rows.{field, fields, registerRow, each}
 
 pub hex-length : (n v : ℕ) → length (hex n v) ≡ n

@@ -8,7 +8,7 @@ use lib.ListN.{length, replicate}
 use lib.Seq.{sets}
 use Rattle.word.specs.Choice.{pick}
 use Rattle.word.specs.Bytes.{wordAt}
-use Rattle.loader.specs.Broken.{badProgramLength}
+use Rattle.refusals.specs.Broken.{badProgramLength}
 use Rattle.loader.specs.Load.{_otherwise_, refusedIf, loadedWith}
 use Rattle.loader.specs.Answer.{answer, loadAnswer}
 use Rattle.loader.specs.declared.Answer.{Answer}
@@ -16,7 +16,7 @@ use Rattle.loader.specs.declared.Loaded.{Loaded}
 use Rattle.loader.specs.declared.Loaded.the-variants.{Refused}
 use Rattle.loader.specs.declared.Refusal.the-variants.{ProgramLength, MemoryLength}
 use Rattle.call.specs.Run.{Call, Outcome, runOutcome}
-use Rattle.text.specs.Lines.{Said, Read, Bad, Good, readText}
+use Rattle.lines.specs.Lines.{Said, Read, Bad, Good, readText}
 use Rattle.text.specs.Rows.{answerRow, registerRows}
 use Rattle.text.specs.declared.Shown.{Shown}
 

@@ -8,8 +8,8 @@ use Rattle.vliw.specs.Cell.{landed}
 use Rattle.isa.specs.Register.{generalAt, branch}
 use Rattle.machine.specs.Image.{cellIn}
 use Rattle.loader.specs.declared.Answer.{Answer}
-use Rattle.text.specs.Digits.{hex}
-use Rattle.text.specs.Lines.{blank, newline}
+use Rattle.lines.specs.Digits.{hex}
+use Rattle.lines.specs.Lines.{blank, newline}
 
 -- so many digits, and what stands after them
 abbrev pub field : ℕ → ℕ → ℕ → List ℕ

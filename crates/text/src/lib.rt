@@ -1,6 +1,4 @@
 // The text program: lines of hexadecimal in, lines of hexadecimal out.
-mod items;
-mod reading;
 mod registers;
 mod rows;
 mod running;

@@ -3,7 +3,7 @@ ghost use mathlib.Core.Path.{_≡_};
 ghost use Prim.Native.Nat.{_+_, _≤_, _<_};
 ghost use lib.ListN.{length};
 ghost use lib.Seq.{sets};
-ghost use Rattle.text.specs.Digits.{digit, hex};
+ghost use Rattle.lines.specs.Digits.{digit, hex};
 ghost use Rattle.text.specs.Rows.{field, fields, answerRow};
 use loader::Answer;
 

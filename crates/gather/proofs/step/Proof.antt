@@ -1,105 +1,90 @@
 -- Each range of opcodes has its way of decoding, and what it does.
 use mathlib.Core.Path.{sym, _∙_}
-use Prim.Native.Nat.{_<_}
 use native.Mathlib.Omega.{arith}
-use Rattle.isa.specs.Program.{cluster}
-use Rattle.gather.proofs.Opcodes.{within-true, control-first, control-last, formed-as, code-as}
+use Rattle.isa.proofs.Formats.{within-true}
+use Rattle.gather.proofs.Opcodes.{control-first, control-last, formed-as, code-as}
 use borrow.Author.Needs.{needs}
 use Rattle.gather.proofs.step.Statement.{statement}
 use Rattle.gather.proofs.step.Tie as tie
 
--- the cluster
-four : (s : tie.Start) → cluster (s .args .x) < 4
-four s = omega (arith, s .pre .0)
-
 turns-requires : tie.Need-turns-requires
 turns-requires c κs =
     let e = c .still .ensures 0 in
-    (formed-as _ _ (omega arith) e, control-first _ (code-as _ _ (omega arith) e ∙ sym (c .before .before .before .opcode .ensures) ∙ c .before .if1 .taken))
+    (formed-as _ _ (omega arith) e, control-first _ (code-as _ _ (omega arith) e ∙ sym (c .before .before .opcode .ensures) ∙ c .before .if1 .taken))
 
 returns : tie.Need-returns
 returns c =
-    let s = c .before .before .before .before .before .before in
-    rw (← c .before .still .ensures (cluster (s .args .x))) (c .turns .ensures _ _ _ (s .pre .1 .1 .0))
+    let s = c .before .before .before .before .before in
+    rw (← c .before .still .ensures (s .args .c)) (c .turns .ensures _ _ _ (s .pre .1 .1 .0))
 
 compute-requires : tie.Need-compute-requires
 compute-requires c κs =
-    let o = c .before .before .before .opcode .ensures in
-    (rw (c .before .before .cluster .ensures) (four (c .before .before .before .before .before)), omega (arith, o, c .before .if1 .left), omega (arith, o, c .if2 .taken))
+    let o = c .before .before .opcode .ensures in
+    (c .before .before .before .before .pre .0, omega (arith, o, c .before .if1 .left), omega (arith, o, c .if2 .taken))
 
 computes-requires : tie.Need-computes-requires
 computes-requires c κs =
-    let s = c .before .before .before .before .before .before .before .before .before in
-    let e = rw (c .before .before .before .before .before .before .cluster .ensures) at (c .before .before .before .compute .ensures) in
-    let k = code-as _ _ (four s) e ∙ sym (c .before .before .before .before .before .before .before .opcode .ensures) in
-    let p = s .pre .1 in
-    (formed-as _ _ (four s) e, (p .0, (p .1 .0 .results, (p .1 .1 .0, omega (arith, k, c .before .before .before .before .before .if1 .left), omega (arith, k, c .before .before .before .before .if2 .taken)))))
+    let p = c .before .before .before .before .before .before .before .before .pre in
+    let e = c .before .before .before .compute .ensures in
+    let k = code-as _ _ (p .0) e ∙ sym (c .before .before .before .before .before .before .opcode .ensures) in
+    (formed-as _ _ (p .0) e, (p .1 .0, (p .1 .1 .0 .results, (p .1 .1 .1 .0, omega (arith, k, c .before .before .before .before .before .if1 .left), omega (arith, k, c .before .before .before .before .if2 .taken)))))
 
 returns-2 : tie.Need-returns-2
 returns-2 c =
-    let e = rw (c .before .before .before .before .before .before .before .cluster .ensures) at (c .before .before .before .before .compute .ensures) in
-    rw (← e) (c .computes .ensures _ _ _ _ _ (c .before .before .before .before .before .before .before .before .before .before .pre .1 .1 .0 .stores))
+    rw (← c .before .before .before .before .compute .ensures)
+    (c .computes .ensures _ _ _ _ _ (c .before .before .before .before .before .before .before .before .before .pre .1 .1 .0 .stores))
 
 access-requires : tie.Need-access-requires
 access-requires c κs =
-    let o = c .before .before .before .before .opcode .ensures in
-    (rw (c .before .before .before .cluster .ensures) (four (c .before .before .before .before .before .before)), omega (arith, o, c .before .if2 .left), omega (arith, o, c .if3 .taken))
+    let o = c .before .before .before .opcode .ensures in
+    (c .before .before .before .before .before .pre .0, omega (arith, o, c .before .if2 .left), omega (arith, o, c .if3 .taken))
 
 accesses-requires : tie.Need-accesses-requires
 accesses-requires c κs =
-    let s = c .before .before .before .before .before .before .before .before .before .before .before .before .before in
-    let e = rw (c .before .before .before .before .before .before .before .before .before .before .cluster .ensures) at (c .before .before .before .before .before .before .access .ensures) in
-    let k = code-as _ _ (four s) e ∙ sym (c .before .before .before .before .before .before .before .before .before .before .before .opcode .ensures) in
-    let p = s .pre .1 in
-    (formed-as _ _ (four s) e, (p .0, (p .1 .0, (p .1 .1 .0, p .1 .1 .1, within-true 52 59 (c .before .before .before .before .before .before .access .result .opcode) (omega (arith, k, c .before .before .before .before .before .before .before .before .if2 .left)) (omega (arith, k, c .before .before .before .before .before .before .before .if3 .taken))))))
+    let p = c .before .before .before .before .before .before .before .before .before .before .before .before .pre in
+    let e = c .before .before .before .before .before .before .access .ensures in
+    let k = code-as _ _ (p .0) e ∙ sym (c .before .before .before .before .before .before .before .before .before .before .opcode .ensures) in
+    (formed-as _ _ (p .0) e, (p .1 .0, (p .1 .1 .0, (p .1 .1 .1 .0, p .1 .1 .1 .1, within-true 52 59 (c .before .before .before .before .before .before .access .result .opcode) (omega (arith, k, c .before .before .before .before .before .before .before .before .if2 .left)) (omega (arith, k, c .before .before .before .before .before .before .before .if3 .taken))))))
 
 returns-3 : tie.Need-returns-3
-returns-3 c =
-    let e = rw (c .before .before .before .before .before .before .before .before .before .before .before .cluster .ensures) at (c .before .before .before .before .before .before .before .access .ensures) in
-    rw (← e) (c .accesses .ensures _)
+returns-3 c = rw (← c .before .before .before .before .before .before .before .access .ensures) (c .accesses .ensures _)
 
 copy-requires : tie.Need-copy-requires
 copy-requires c κs =
-    let o = c .before .before .before .before .before .opcode .ensures in
-    (rw (c .before .before .before .before .cluster .ensures) (four (c .before .before .before .before .before .before .before)), omega (arith, o, c .before .if3 .left, c .if4 .taken))
+    let o = c .before .before .before .before .opcode .ensures in
+    (c .before .before .before .before .before .before .pre .0, omega (arith, o, c .before .if3 .left, c .if4 .taken))
 
 copies-requires : tie.Need-copies-requires
 copies-requires c κs =
-    let s = c .before .before .before .before .before .before .before .before .before .before .before in
-    let e = rw (c .before .before .before .before .before .before .before .before .cluster .ensures) at (c .before .before .before .copy .ensures) in
-    let k = code-as _ _ (four s) e ∙ sym (c .before .before .before .before .before .before .before .before .before .opcode .ensures) in
-    let p = s .pre .1 in
-    (formed-as _ _ (four s) e, (p .0, (p .1 .0 .results, (p .1 .1 .0, omega (arith, k, c .before .before .before .before .before .if3 .left, c .before .before .before .before .if4 .taken)))))
+    let p = c .before .before .before .before .before .before .before .before .before .before .pre in
+    let e = c .before .before .before .copy .ensures in
+    let k = code-as _ _ (p .0) e ∙ sym (c .before .before .before .before .before .before .before .before .opcode .ensures) in
+    (formed-as _ _ (p .0) e, (p .1 .0, (p .1 .1 .0 .results, (p .1 .1 .1 .0, omega (arith, k, c .before .before .before .before .before .if3 .left, c .before .before .before .before .if4 .taken)))))
 
 returns-4 : tie.Need-returns-4
 returns-4 c =
-    let e = rw (c .before .before .before .before .before .before .before .before .before .cluster .ensures) at (c .before .before .before .before .copy .ensures) in
-    rw (← e) (c .copies .ensures _ _ _ _ _ (c .before .before .before .before .before .before .before .before .before .before .before .before .pre .1 .1 .0 .stores))
+    rw (← c .before .before .before .before .copy .ensures)
+    (c .copies .ensures _ _ _ _ _ (c .before .before .before .before .before .before .before .before .before .before .before .pre .1 .1 .0 .stores))
 
 jump-requires : tie.Need-jump-requires
-jump-requires c κs =
-    let o = c .before .before .before .before .before .opcode .ensures in
-    (rw (c .before .before .before .before .cluster .ensures) (four (c .before .before .before .before .before .before .before)), omega (arith, o, c .if4 .left))
+jump-requires c κs = (c .before .before .before .before .before .before .pre .0, omega (arith, c .before .before .before .before .opcode .ensures, c .if4 .left))
 
 turns-requires-2 : tie.Need-turns-requires-2
 turns-requires-2 c κs =
-    let s = c .before .before .before .before .before .before .before .before in
-    let e = rw (c .before .before .before .before .before .cluster .ensures) at (c .jump .ensures) in
-    (formed-as _ _ (four s) e, control-last (c .jump .result .opcode) (omega (arith, code-as _ _ (four s) e, c .before .before .before .before .before .before .opcode .ensures, c .before .if4 .left)))
+    let p = c .before .before .before .before .before .before .before .pre in
+    let e = c .jump .ensures in
+    (formed-as _ _ (p .0) e, control-last (c .jump .result .opcode) (omega (arith, code-as _ _ (p .0) e, c .before .before .before .before .before .opcode .ensures, c .before .if4 .left)))
 
 returns-5 : tie.Need-returns-5
 returns-5 c =
-    let e = rw (c .before .before .before .before .before .before .cluster .ensures) at (c .before .jump .ensures) in
-    rw (← e) (c .turns2 .ensures _ _ _ (c .before .before .before .before .before .before .before .before .before .pre .1 .1 .0))
+    rw (← c .before .jump .ensures) (c .turns2 .ensures _ _ _ (c .before .before .before .before .before .before .before .before .pre .1 .1 .0))
 
 pub step-spec : {M : Type 1} → statement M
 step-spec =
     tie.close
     (tie.spec
     (λ c κs. search needs)
-    (λ c κs. search needs)
-    (λ c. search needs)
-    (λ c κs. sym (c .before .before .opcode .ensures) ∙ c .if1 .taken)
+    (λ c κs. sym (c .before .opcode .ensures) ∙ c .if1 .taken)
     turns-requires
     returns
     compute-requires

@@ -1,6 +1,6 @@
 -- The invariant: so many instructions are done, and the run goes on from the arrays at that tick.
 use mathlib.Core.Path.{_≡_, refl, sym, _∙_}
-use Prim.Native.Nat.{_-_, _*_, _≤_}
+use Prim.Native.Nat.{_-_, _*_, _≤_, zero-le}
 use native.Mathlib.Omega.{arith}
 use lib.ListN.{length}
 use Rattle.word.specs.Bytes.{words}
@@ -9,8 +9,9 @@ use Rattle.vliw.specs.Machine.{step}
 use Rattle.memory.specs.Memory.{store}
 use Rattle.machine.specs.Instruction.{instructionOf}
 use Rattle.ticks.specs.Ticks.{views}
-use Rattle.run.specs.Turn.{situationAt, Running, Room, after}
-use Rattle.run.proofs.Endings.{run-begun, run-paused, turn-next, turn-last}
+use Rattle.turn.specs.Turn.{situationAt, Running, Room}
+use Rattle.run.specs.Loop.{after}
+use Rattle.run.proofs.Endings.{run-begun, run-paused, loop-on, few-bytes, next-fits, fewer-left, loop-off}
 use borrow.Author.Needs.{needs}
 use Rattle.run.proofs.run_all.Statement.{statement}
 use Rattle.run.proofs.run_all.Tie as tie
@@ -29,7 +30,7 @@ loop-holds : tie.Need-loop-holds Inv-loop μ-loop
 loop-holds c =
     let h = c .before .before .before in
     let p = h .pre in
-    (omega arith, omega arith, refl, p .1 .0, p .1 .1 .0, sym (run-begun (step store (instructionOf (h .args .delays) (words (h .args .program .now)))) (h .args .n .0) _))
+    (zero-le, zero-le, refl, p .1 .0, p .1 .1 .0, sym (run-begun (step store (instructionOf (h .args .delays) (words (h .args .program .now)))) (h .args .n .0) _))
 
 step-requires : tie.Need-step-requires Inv-loop μ-loop
 step-requires c κs =
@@ -40,27 +41,26 @@ step-requires c κs =
 returns : tie.Need-returns Inv-loop μ-loop
 returns c =
     let l = c .before .before .before .before .before .before .before .before .before .before .before .before .before .before .before .before .before .before .before .before .loop in
-    let v = l .inv in
-    let h = rw (c .before .r .given .1) at (c .before .before .before .before .before .step .ensures .1) in
-    record { few = v .0; bank = h .running .bank; start = h .running .start; used = l .used; is = v .5 ∙ turn-last _ _ _ _ _ (c .before .before .before .before .before .before .before .before .before .before .before .before .before .before .before .before .before .if1 .taken) _ (h .is) }
+    let a = c .before .before .before .before .before .before .before .before .before .before .before .before .before .before .before .before .before .before .before .before .before .before .before .before .args in
+    let s = c .before .before .before .before .before .step in
+    loop-off (a .delays) (words (a .program .now)) (a .landing .now) (a .n .0) _ (l .done) (l .at) (l .used)
+    (situationAt (a .place .0) (views 0 (a .value .now) (a .old .now) (a .ready .now) (a .land .now)) (a .memory .now) (a .landing .now) 0)
+    (situationAt (l .at .0) (views (l .done .0) (l .value) (l .old) (l .ready) (l .land)) (l .memory) (a .landing .now) (l .used)) (s .result) (c .before .before .before .before .before .before .before .before .before .before .before .before .before .before .before .before .before .if1 .taken) (l .inv .5) (c .before .r .given .1) (s .ensures .1)
 
 add-used : tie.Need-add-used Inv-loop μ-loop
 add-used c =
-    let h = rw (c .before .r2 .given .1) at (c .before .before .before .before .before .step .ensures .1) in
-    omega (arith, h .few, c .before .before .before .before .before .before .before .before .before .before .before .before .before .before .before .before .before .before .before .before .loop .inv .1, c .before .before .before .before .before .before .before .before .before .before .before .before .before .before .before .before .before .if1 .taken, c .before .before .before .before .before .before .before .before .before .before .before .before .before .before .before .before .before .before .before .before .before .before .before .before .pre .1 .1 .1)
+    let l = c .before .before .before .before .before .before .before .before .before .before .before .before .before .before .before .before .before .before .before .before .loop in
+    let start = c .before .before .before .before .before .before .before .before .before .before .before .before .before .before .before .before .before .before .before .before .before .before .before .before in
+    few-bytes (start .args .n .0) (l .done .0) (l .used) (c .before .before .before .before .before .before .before .before .before .before .before .before .before .before .before .before .before .if1 .taken) (start .pre .1 .1 .1) (l .inv .1) (rw (c .before .r2 .given .1) at (c .before .before .before .before .before .step .ensures .1))
 
 loop-again : tie.Need-loop-again Inv-loop μ-loop
 loop-again c =
-    let v = c .before .before .before .before .before .before .before .before .before .before .before .before .before .before .before .before .before .before .before .before .before .loop .inv in
+    let l = c .before .before .before .before .before .before .before .before .before .before .before .before .before .before .before .before .before .before .before .before .before .loop in
+    let a = c .before .before .before .before .before .before .before .before .before .before .before .before .before .before .before .before .before .before .before .before .before .before .before .before .before .args in
     let s = c .before .before .before .before .before .before .step in
-    let h = rw (c .before .before .r2 .given .1) at (s .ensures .1) in (
-      omega (arith, c .before .before .before .before .before .before .before .before .before .before .before .before .before .before .before .before .before .before .if1 .taken),
-      omega (arith, h .few, v .1),
-      omega arith,
-      h .running,
-      s .ensures .0,
-      v .5 ∙ turn-next _ _ _ _ _ (c .before .before .before .before .before .before .before .before .before .before .before .before .before .before .before .before .before .before .if1 .taken) (h .is),
-    )
+    loop-on (a .delays) (words (a .program .now)) (a .landing .now) (a .memory .now) _ (a .n .0) (l .done .0) (l .at .0) (l .used) _ _
+    (situationAt (l .at .0) (views (l .done .0) (l .value) (l .old) (l .ready) (l .land)) (l .memory) (a .landing .now) (l .used))
+    (run (step store (instructionOf (a .delays) (words (a .program .now)))) (a .n .0) (situationAt (a .place .0) (views 0 (a .value .now) (a .old .now) (a .ready .now) (a .land .now)) (a .memory .now) (a .landing .now) 0)) (s .result) (c .before .before .before .before .before .before .before .before .before .before .before .before .before .before .before .before .before .before .if1 .taken) (l .inv .1) (l .inv .5) (c .before .before .r2 .given .1) (s .ensures .1) (c .before .before .before .before .before .memory .given ∙ l .inv .2) (s .ensures .0)
 
 returns-2 : tie.Need-returns-2 Inv-loop μ-loop
 returns-2 c =
@@ -81,8 +81,8 @@ run-all-spec =
     returns
     (λ c. search needs)
     add-used
-    (λ c. omega (arith, c .before .before .before .before .before .before .before .before .before .before .before .before .before .before .before .before .before .before .if1 .taken, c .before .before .before .before .before .before .before .before .before .before .before .before .before .before .before .before .before .before .before .before .before .before .before .before .before .pre .1 .1 .1))
-    (λ c. omega (arith, c .before .before .before .before .before .before .before .before .before .before .before .before .before .before .before .before .before .before .if1 .taken))
+    (λ c. next-fits _ _ (c .before .before .before .before .before .before .before .before .before .before .before .before .before .before .before .before .before .before .if1 .taken) (c .before .before .before .before .before .before .before .before .before .before .before .before .before .before .before .before .before .before .before .before .before .before .before .before .before .pre .1 .1 .1))
+    (λ c. fewer-left _ _ (c .before .before .before .before .before .before .before .before .before .before .before .before .before .before .before .before .before .before .if1 .taken))
     loop-again
     (λ c. c .before .before .before .loop .inv .2)
     returns-2)

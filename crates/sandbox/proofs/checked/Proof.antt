@@ -3,10 +3,10 @@ use mathlib.Core.Path.{_≡_, sym, _∙_}
 use mathlib.Core.List.{List}
 use Prim.Native.Nat.{ℕ}
 use Rattle.word.specs.Bytes.{words}
-use Rattle.isa.specs.Table.{tableOf}
 use Rattle.isa.specs.declared.Table.{Table}
-use Rattle.isa.specs.Bounds.{Bounds}
-use Rattle.isa.proofs.Bounds.{bounds}
+use Rattle.tables.specs.Table.{tableOf}
+use Rattle.tables.specs.Bounds.{Bounds}
+use Rattle.tables.proofs.Bounds.{bounds}
 use Rattle.loader.specs.Load.{loadedOf}
 use Rattle.loader.specs.declared.Loaded.the-variants.{Good}
 use Rattle.loader.specs.Passed.{Passed}

@@ -16,17 +16,17 @@ use Rattle.word.proofs.Bytes.{words-length}
 use Rattle.word.proofs.Choice.{never-both}
 use Rattle.isa.specs.Program.{isStart, operationsAt}
 use Rattle.isa.specs.Touch.{reads, destinations}
-use Rattle.isa.proofs.Bounds.{delay-bounds}
 use Rattle.isa.proofs.Instructions.{start-inside, start-zero, following-after, next-start}
+use Rattle.tables.proofs.Bounds.{delay-bounds}
+use Rattle.reach.specs.Laid.{Laid}
+use Rattle.reach.specs.Near.{Near, near, placeAt, stepsAt}
+use Rattle.reach.proofs.Reaching.{reach-start}
 use Rattle.schedule.specs.Rule.{destsAt, TooSoonAt}
-use Rattle.schedule.specs.Laid.{Laid}
 use Rattle.schedule.specs.Late.{LateOf}
-use Rattle.schedule.specs.Near.{Near, near, placeAt, stepsAt}
 use Rattle.schedule.specs.Stamps.{names, Stamped}
 use Rattle.schedule.specs.declared.Verdict.the-variants.{Good}
 use Rattle.schedule.proofs.Laid.{laid, decodable}
 use Rattle.schedule.proofs.Stamps.{Told, told-none, told-more, told-touch}
-use Rattle.schedule.proofs.Reaching.{reach-start}
 use Rattle.schedule.proofs.Soon.{Soon, none-before, none-late, too-soon, lowest, none}
 use Rattle.schedule.proofs.check.Statement.{statement}
 use Rattle.schedule.proofs.check.Tie as tie

@@ -1,6 +1,6 @@
 use borrow.Author.Needs.{needs}
 use mathlib.Core.Path.{sym, _∙_}
-use Rattle.isa.proofs.Bounds.{bounds}
+use Rattle.tables.proofs.Bounds.{bounds}
 use Rattle.loader.specs.Load.{loadedWith}
 use Rattle.loader.proofs.numbers.load_with.Statement.{statement}
 use Rattle.loader.proofs.numbers.load_with.Tie as tie

@@ -15,6 +15,12 @@ two-writes-requires c κs =
     let s = k5 .before .before .before .before .before .before .before .before in
     few-opened (s .args .table .clusters) (words (s .args .program .now)) (k5 .bad-cluster .ensures) (c .before .before .before .enum-told3 .given .1) (s .pre .0 .clusters .1)
 
+bad-control-requires : tie.Need-bad-control-requires
+bad-control-requires c κs =
+    let k5 = c .before .before .before .before .before .before .before .before in
+    let s = k5 .before .before .before .before .before .before .before .before in
+    some-syllable (s .args .program .now) (s .pre .1)
+
 returns : tie.Need-returns
 unfolding testedBy
 returns c = rw (← c .before .before .before .no-end .ensures, c .before .i .given .1)
@@ -99,7 +105,7 @@ tested-spec =
     (λ c. search needs)
     returns-5
     (λ c. search needs)
-    (λ c κs. search needs)
+    bad-control-requires
     (λ c. search needs)
     returns-6
     (λ c. search needs)

@@ -5,9 +5,9 @@ use mathlib.Core.List.{List}
 use Prim.Native.Nat.{ℕ, _≤_}
 use lib.ListN.{length}
 use Rattle.word.specs.Bytes.{words}
-use Rattle.isa.specs.Table.{tableOf}
-use Rattle.isa.specs.Bounds.{Bounds}
-use Rattle.isa.proofs.Bounds.{bounds}
+use Rattle.tables.specs.Table.{tableOf}
+use Rattle.tables.specs.Bounds.{Bounds}
+use Rattle.tables.proofs.Bounds.{bounds}
 use Rattle.loader.specs.Load.{loadedWith}
 use Rattle.loader.specs.declared.Loaded.the-variants.{Good}
 use Rattle.loader.specs.Passed.{Passed}

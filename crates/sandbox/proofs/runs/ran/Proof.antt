@@ -2,14 +2,25 @@
 use borrow.Author.Needs.{needs}
 use borrow.Author.Tests.{not-true, not-false}
 use mathlib.Core.Path.{_≡_, sym, _∙_}
-use mathlib.Core.Bool.{true, false}
+use mathlib.Core.Bool.{Bool, true, false}
+use mathlib.Core.List.{List}
+use Prim.Native.Nat.{ℕ, _<_}
 use native.Mathlib.Omega.{arith}
+use mir.Syntax.{w32}
+use mir.Val.{Fits}
 use Rattle.word.specs.Bytes.{words}
 use Rattle.word.specs.Lists.{anyBelow}
 use Rattle.vliw.specs.Cell.{at}
 use Rattle.isa.specs.Program.{isStart}
+use Rattle.tables.specs.Table.{tableOf}
+use Rattle.isa.specs.declared.Table.{Table}
+use Rattle.tables.specs.Bounds.{Bounds}
+use Rattle.loader.specs.Passed.{Passed}
 use Rattle.machine.specs.Image.{placeIn, registersIn}
 use Rattle.call.specs.Run.{Call}
+use Rattle.turn.specs.Turn.{Runs}
+use Rattle.machine.specs.State.{registersOf}
+use Rattle.machine.specs.declared.State.{State}
 use Rattle.machine.specs.Valid.{badRegister}
 use Rattle.call.proofs.Fits.{start-small}
 use Rattle.sandbox.proofs.Ready.{runs}
@@ -54,16 +65,28 @@ returns-2 c = λ room.
     } in
     sym (not-valid k h v)
 
+-- what loading gives the run, of the table as it was read
+ready : (table program : List ℕ) {t : Table} → t ≡ tableOf table → Bounds (tableOf table) × Passed (tableOf table) (words program) → Runs (t .delays) (words program)
+ready table program e p = rw e (runs (p .1) (p .0))
+
+unbroken : (s : State) {b : Bool} → b ≡ anyBelow (λ r. badRegister r (at (registersOf s) r)) 288 → b ≡ false
+    → anyBelow (λ r. badRegister r (at (registersOf s) r)) 288 ≡ false
+unbroken s told left = sym told ∙ left
+
+-- by itself: beside all that is known at the call it is dear
+below : {n : ℕ} → Fits w32 n → n < 4294967296
+below h = omega arith
+
 run-requires : tie.Need-run-requires
 run-requires c κs =
-    let p = c .before .before .before .before .before .before .before .before .before .before .before .before .before .pre .0 in
+    let start = c .before .before .before .before .before .before .before .before .before .before .before .before .before in
     let s = c .before .before .before .before .before .before .read .ensures in (
-      rw (c .before .read2 .ensures) (runs (p .1) (p .0)),
+      ready (start .args .table .now) (start .args .program .now) (c .before .read2 .ensures) (start .pre .0),
       (
         s .0,
         (
           sym (c .before .before .before .before .before .is-start .ensures) ∙ not-false _ (c .before .before .before .before .if1 .left),
-          (sym (c .before .before .before .bad-registers .ensures) ∙ c .before .before .if2 .left, omega (arith, c .before .before .before .before .before .before .before .before .before .before .before .before .before .fits)),
+          (unbroken (c .before .before .before .before .before .before .read .result) (c .before .before .before .bad-registers .ensures) (c .before .before .if2 .left), below (start .fits .n)),
         ),
       ),
     )

@@ -11,7 +11,7 @@ use Rattle.word.proofs.Bytes.{words-length}
 use Rattle.isa.specs.Program.{spotAt, spotBefore, operation}
 use Rattle.isa.specs.Touch.{dests}
 use Rattle.isa.proofs.Ways.{operations}
-use Rattle.loader.proofs.Walks.{walk-few, walk-on, walk-next}
+use Rattle.refusals.proofs.Walks.{walk-few, walk-on, walk-next}
 use Rattle.schedule.specs.Late.{LateOf}
 use Rattle.schedule.specs.Stamps.{Registers}
 use Rattle.schedule.proofs.Laid.{all-operations, registers}

@@ -10,7 +10,7 @@ use Rattle.word.proofs.Bytes.{words-length}
 use Rattle.word.proofs.Lists.{any-snoc}
 use Rattle.isa.specs.Program.{nowhere, spotAt, spotBefore, operation}
 use Rattle.isa.proofs.Ways.{operations, operations-size, operations-at}
-use Rattle.loader.proofs.Walks.{walk-few, walk-on, walk-next}
+use Rattle.refusals.proofs.Walks.{walk-few, walk-on, walk-next}
 use Rattle.schedule.specs.Stamps.{names, Stamped}
 use Rattle.schedule.proofs.Laid.{all-operations, registers}
 use Rattle.schedule.proofs.Stamps.{stamped-none, stamped-more}

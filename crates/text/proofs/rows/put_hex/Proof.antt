@@ -6,7 +6,7 @@ use native.Mathlib.Nat.{mod-lt, zero-lt-suc}
 use native.Mathlib.Omega.{arith}
 use lib.ListN.{length, length-set}
 use lib.Seq.{sets}
-use Rattle.text.specs.Digits.{hex}
+use Rattle.lines.specs.Digits.{hex}
 use Rattle.text.proofs.Puts.{digit-first}
 use Rattle.text.proofs.rows.put_hex.Statement.{statement}
 use Rattle.text.proofs.rows.put_hex.Tie as tie

@@ -4,7 +4,7 @@ use mathlib.Core.Bool.{Bool, true, false}
 use mathlib.Core.List.{List}
 use Prim.Native.Nat.{ℕ}
 use native.Mathlib.Omega.{arith}
-use Rattle.loader.specs.Broken.{badProgramLength}
+use Rattle.refusals.specs.Broken.{badProgramLength}
 use Rattle.loader.specs.Load.{_otherwise_, refusedIf, loadedWith}
 use Rattle.loader.specs.Answer.{loadAnswer}
 use Rattle.loader.specs.declared.Answer.{Answer}

@@ -1,0 +1,3 @@
+pub mod Nexts
+pub mod Laid
+pub mod Near

@@ -1,0 +1,5 @@
+pub mod Walks
+pub mod Last
+pub mod Turns
+pub mod Takes
+pub mod Stamps

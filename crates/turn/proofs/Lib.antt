@@ -1,0 +1,3 @@
+-- Laws of a turn.
+pub mod Steps
+pub mod Turns

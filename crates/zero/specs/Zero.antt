@@ -1,0 +1,30 @@
+-- Refusal 4: "bits 23..18 of opcode 0 above 1, or a bit that should be zero is set". "Bits not named are zero."
+use mathlib.Core.Bool.{Bool, false, not, _||_, _&&_}
+use Prim.Native.Nat.{ℕ}
+use lib.Dec.{eqb, ltb}
+use Rattle.isa.specs.Syllable.{bits, opcode, formatOf}
+use Rattle.isa.specs.declared.Format.{Format}
+use Rattle.isa.specs.declared.Format.the-variants.{Still, Two, One, Carry, Test, Select, Load, Store, Copy, Jump, Fork}
+
+abbrev pub set : ℕ → Bool
+set x = not (eqb x 0)
+
+-- bit 11 clear means that s2 is register bits 5..0, and bits 10..6 are not named
+abbrev pub besideRegister : ℕ → Bool
+besideRegister s = eqb (bits 11 11 s) 0 && set (bits 10 6 s)
+
+abbrev pub badBitsAs : Format → ℕ → Bool
+badBitsAs Still s = ltb 1 (bits 23 18 s) || set (bits 17 0 s)
+badBitsAs Two s = besideRegister s
+badBitsAs One s = set (bits 11 0 s)
+badBitsAs Carry s = false
+badBitsAs Test s = set (bits 23 21 s) || besideRegister s
+badBitsAs Select s = set (bits 8 6 s)
+badBitsAs Load s = false
+badBitsAs Store s = false
+badBitsAs Copy s = set (bits 11 2 s)
+badBitsAs Jump s = false
+badBitsAs Fork s = false
+
+unfoldable pub badBits : ℕ → Bool
+badBits s = badBitsAs (formatOf (opcode s)) s
