@@ -20,6 +20,7 @@ struct library {
     uint32_t (*run)(const uint8_t *, size_t, const uint8_t *, size_t, uint8_t *, size_t, uint8_t *, size_t, const uint8_t *, size_t, uint32_t,
                     uint8_t *, size_t);
     uint8_t state[VEX_STATE_BYTES], memory[MEMORY], room[VEX_ROOM_BYTES];
+    size_t state_len; /* the image that it takes: one from before the link register has none */
 };
 
 struct measure {
@@ -29,6 +30,7 @@ struct measure {
     uint32_t n;      /* instructions a call */
     double unit;     /* how many units a call has: its time is told for one */
     const char *per; /* ns or us */
+    int links;       /* it wants the link register */
 };
 
 static void fail(const char *what, const char *why) {
@@ -42,19 +44,27 @@ static void entry(void *handle, const char *name, void *to) {
     memcpy(to, &found, sizeof found);
 }
 
+/* Whether run takes an image of this length: with n = 0 it tests everything and changes nothing. */
+static int takes(struct library *l, size_t state_len) {
+    static const uint8_t table[] = {1, 1, 0, 0, 0, 0, 1, 1, 1, 1, 1}, stop[] = {0xC0, 0x04, 0, 0};
+    return l->run(table, sizeof table, stop, sizeof stop, l->state, state_len, l->memory, 0, NULL, 0, 0, l->room, sizeof l->room) == VEX_PAUSED;
+}
+
 static void open_library(struct library *l, const char *path) {
     void *handle = dlopen(path, RTLD_NOW | RTLD_LOCAL);
     if (handle == NULL) fail(path, dlerror());
     entry(handle, "vex_load", &l->load);
     entry(handle, "vex_check", &l->check);
     entry(handle, "vex_run", &l->run);
+    l->state_len = takes(l, VEX_STATE_BYTES) ? VEX_STATE_BYTES : VEX_STATE_LINK;
+    if (!takes(l, l->state_len)) fail(path, "it takes neither an image with the link register nor one without");
 }
 
 static uint32_t call(struct library *l, const struct measure *m) {
     const struct kernel *k = m->kernel;
     if (m->entry == LOAD) return l->load(k->table, k->table_len, k->program, k->program_len, l->room, sizeof l->room);
     if (m->entry == CHECK) return l->check(k->table, k->table_len, k->program, k->program_len, l->room, sizeof l->room);
-    return l->run(k->table, k->table_len, k->program, k->program_len, l->state, sizeof l->state, l->memory, sizeof l->memory, NULL, 0, m->n,
+    return l->run(k->table, k->table_len, k->program, k->program_len, l->state, l->state_len, l->memory, sizeof l->memory, NULL, 0, m->n,
                   l->room, sizeof l->room);
 }
 
@@ -70,6 +80,7 @@ static double sample(struct library *l, const struct measure *m, unsigned long c
     return (double)(to.tv_sec - from.tv_sec) + 1e-9 * (double)(to.tv_nsec - from.tv_nsec);
 }
 
+/* The link register, where one library has none, is 0 with the other one too. */
 static int same(const struct library *a, const struct library *b) {
     return memcmp(a->room, b->room, VEX_ROOM_BYTES) == 0 && memcmp(a->state, b->state, VEX_STATE_BYTES) == 0 &&
            memcmp(a->memory, b->memory, MEMORY) == 0;
@@ -97,28 +108,36 @@ int main(int argc, char **argv) {
     if (count != SECOND + 1 && count != OLD + 1) fail("usage", "bench PROVED.so SECOND.so [OLD.so]");
     for (int i = 0; i < count; i++) open_library(&libraries[i], argv[i + 1]);
 
-    const struct kernel *narrow = narrow_kernel(), *wide = wide_kernel(), *full = full_kernel();
+    const struct kernel *narrow = narrow_kernel(), *wide = wide_kernel(), *full = full_kernel(), *adds = adds_kernel(), *calls = calls_kernel();
     const struct measure measures[] = {
-        {"load of 4,096 syllables", LOAD, full, 0, 1e-6, "us"},
-        {"check of 4,096 syllables", CHECK, full, 0, 1e-6, "us"},
-        {"run narrow, one instruction", RUN, narrow, 10000, 10000 * 1e-9, "ns"},
-        {"run wide, one instruction", RUN, wide, 10000, 10000 * 1e-9, "ns"},
-        {"slice of one instruction", RUN, full, 1, 1e-6, "us"},
+        {"load of 4,096 syllables", LOAD, full, 0, 1e-6, "us", 0},
+        {"check of 4,096 syllables", CHECK, full, 0, 1e-6, "us", 0},
+        {"run narrow, one instruction", RUN, narrow, 10000, 10000 * 1e-9, "ns", 0},
+        {"run wide, one instruction", RUN, wide, 10000, 10000 * 1e-9, "ns", 0},
+        {"run adds, one instruction", RUN, adds, 10000, 10000 * 1e-9, "ns", 0},
+        {"run calls, one instruction", RUN, calls, 10000, 10000 * 1e-9, "ns", 1},
+        {"slice of one instruction", RUN, full, 1, 1e-6, "us", 0},
     };
+    double best[sizeof measures / sizeof measures[0]][LIBRARIES];
+    const double *add = NULL; /* the times of an add */
     printf("%-30s %12s %12s %8s", "", "proved", "second", "ratio");
     if (count > OLD) printf(" %12s %8s", "old", "old/new");
     printf("\n");
     for (size_t i = 0; i < sizeof measures / sizeof measures[0]; i++) {
         const struct measure *m = &measures[i];
-        double best[LIBRARIES];
-        measure(libraries, count, m, best);
-        printf("%-30s %9.1f %s %9.1f %s %8.2f", m->name, best[PROVED] / m->unit, m->per, best[SECOND] / m->unit, m->per,
-               best[SECOND] / best[PROVED]);
-        if (count > OLD) printf(" %9.1f %s %8.2f", best[OLD] / m->unit, m->per, best[OLD] / best[PROVED]);
+        const double *took = best[i];
+        int timed = m->links && libraries[OLD].state_len < VEX_STATE_BYTES ? SECOND + 1 : count;
+        measure(libraries, timed, m, best[i]);
+        printf("%-30s %9.1f %s %9.1f %s %8.2f", m->name, took[PROVED] / m->unit, m->per, took[SECOND] / m->unit, m->per,
+               took[SECOND] / took[PROVED]);
+        if (timed > OLD) printf(" %9.1f %s %8.2f", took[OLD] / m->unit, m->per, took[OLD] / took[PROVED]);
         printf("\n");
+        if (m->kernel == adds) add = took;
+        if (m->kernel == calls) printf("%-30s %12.2f %12.2f\n", "  calls by adds", took[PROVED] / add[PROVED], took[SECOND] / add[SECOND]);
         fflush(stdout);
     }
     printf("ratio: second's time by proved's; above 1 the proved library is the faster one. Only ratios of one run compare.\n");
+    printf("calls by adds: the time of a call or a return by that of an add, of each library.\n");
     if (count > OLD) printf("old/new: the earlier build's time by proved's; above 1 the proved library has become faster.\n");
     return 0;
 }

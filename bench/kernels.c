@@ -15,6 +15,8 @@ enum { CMPLT_B = 42, LDW = 52, LDBU = 56, STW = 57, STB = 59, COPY = 60, GOTO = 
 #define OP(opcode, t, s1, low) ((uint32_t)(opcode) << 24 | (uint32_t)(t) << 18 | (uint32_t)(s1) << 12 | (uint32_t)(low))
 #define IMMEDIATE(value) (1u << 11 | ((uint32_t)(value)&0x7FF))
 #define JUMP(opcode, bit, target) ((uint32_t)(opcode) << 24 | (uint32_t)(bit) << 21 | (uint32_t)(target))
+#define CALL(target) (2u << 18 | (uint32_t)(target))
+#define RETURN (3u << 18)
 
 static void append(struct kernel *k, const uint32_t *words, size_t count) {
     for (size_t i = 0; i < 4 * count; i++) k->program[k->program_len++] = (uint8_t)(words[i / 4] >> (24 - 8 * (i % 4)));
@@ -67,5 +69,23 @@ const struct kernel *full_kernel(void) {
     }
     static const uint32_t last[] = {START | OP(ADD, 61, 61, IMMEDIATE(1)), OP(XOR, 62, 60, 61), OP(OR, 63, 60, 61), END | JUMP(GOTO, 0, 0)};
     append(&k, last, 4);
+    return &k;
+}
+
+enum { CALLS = 32 }; /* so many that the goto of the loop hardly counts */
+
+const struct kernel *calls_kernel(void) {
+    static struct kernel k = {one_cluster, sizeof one_cluster, {0}, 0};
+    static const uint32_t a_call = START | END | CALL(CALLS + 1), last[] = {START | END | JUMP(GOTO, 0, 0), START | END | RETURN};
+    for (int i = 0; i < CALLS; i++) append(&k, &a_call, 1);
+    append(&k, last, 2);
+    return &k;
+}
+
+const struct kernel *adds_kernel(void) {
+    static struct kernel k = {one_cluster, sizeof one_cluster, {0}, 0};
+    static const uint32_t an_add = START | END | OP(ADD, 1, 1, IMMEDIATE(1)), last = START | END | JUMP(GOTO, 0, 0);
+    for (int i = 0; i < 2 * CALLS; i++) append(&k, &an_add, 1);
+    append(&k, &last, 1);
     return &k;
 }

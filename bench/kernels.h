@@ -21,4 +21,8 @@ const struct kernel *wide_kernel(void);
 /* One cluster, 4,096 syllables, four an instruction, with a product and a load in each. */
 const struct kernel *full_kernel(void);
 
+/* One cluster, one syllable an instruction: a loop of calls, each with its return; and the same loop with an add for each of them. */
+const struct kernel *calls_kernel(void);
+const struct kernel *adds_kernel(void);
+
 #endif

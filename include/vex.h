@@ -32,9 +32,9 @@ extern "C" {
 #endif
 
 /* This interface. It goes up by one when a call, a number, a layout or a constant changes its meaning. */
-#define VEX_VERSION 1
+#define VEX_VERSION 2
 
-/* Stack that a call may use, with room to spare. On x86-64 the most that was measured is 22,504 bytes, in run. On Arm and other processors nothing was
+/* Stack that a call may use, with room to spare. On x86-64 the most that was measured is 20,200 bytes, in run. On Arm and other processors nothing was
  * measured, as the archive is for x86-64 alone; it is assumed that a library made for them uses at most twice as much. */
 #if defined(__x86_64__)
 #define VEX_STACK_BYTES 32768
@@ -65,44 +65,52 @@ extern "C" {
 #define VEX_ROOM_PLACE 8
 
 /* The state image: the place, a word; then the 64 general registers of cluster 0, of cluster 1, 2 and 3; then the 8 branch registers of
- * each. All are there whatever the table says. An effect starts from an image of zeros. A register has 10 bytes: value and waiting value,
- * a word each; busy and landing, a byte each. VEX_STATE_GENERAL and VEX_STATE_BRANCH give the offset of a register. */
-#define VEX_STATE_BYTES 2884
+ * each; then the link register, a word. All are there whatever the table says. An effect starts from an image of zeros. A register has 10 bytes:
+ * value and waiting value, a word each; busy and landing, a byte each. VEX_STATE_GENERAL and VEX_STATE_BRANCH give the offset of a register.
+ * The link register is no such register: it is never in flight. The operation call sets it to the place after its instruction, at once and
+ * without a landing byte, and goes to its target; the operation return goes to the link register's place and leaves it as it is. No other
+ * operation reads or changes it, so after a call inside a subroutine its return goes to the instruction after the inner call. */
+#define VEX_STATE_BYTES 2888
 #define VEX_STATE_PLACE 0
 #define VEX_STATE_GENERAL(cluster, number) (4 + 10 * (64 * (cluster) + (number)))
 #define VEX_STATE_BRANCH(cluster, number) (2564 + 10 * (8 * (cluster) + (number)))
+#define VEX_STATE_LINK 2884
 #define VEX_REGISTER_VALUE 0
 #define VEX_REGISTER_WAITING 4
 #define VEX_REGISTER_BUSY 8
 #define VEX_REGISTER_LANDING 9
 #define VEX_BUSY_MAX 7
 
-/* The numbers. 1 to 10 are each tested over the whole input before the next, and the lowest place is named; 11 to 14 are met as the effect
- * runs, in one instruction 11 first, then 12 and 13 syllable by syllable, then 14. Good and paused are both 0: which one it is goes by the call.
- * 15 and 16 are never given; 16 is the text program's number for a bad line. In brackets: what the place is. */
+/* The numbers. 1 to 10 are each tested over the whole input before the next, and the lowest place is named; 11 to 14 and 17 are met as the effect
+ * runs, in one instruction 11 first, then 17, then 12 and 13 syllable by syllable, then 14. Good and paused are both 0: which one it is goes by
+ * the call. 15 and 16 are never given; 16 is the text program's number for a bad line. In brackets: what the place is. */
 enum {
     VEX_GOOD = 0,            /* load, check: nothing is wrong [0] */
     VEX_PAUSED = 0,          /* run: n instructions are done, and no stop was met [the one to come] */
     VEX_BAD_TABLE = 1,       /* the table breaks a limit [0] */
     VEX_BAD_LENGTH = 2,      /* a length is wrong [0 program, 1 memory, 2 state, 3 room; the first in this order] */
     VEX_NO_END = 3,          /* the last syllable lacks bit 31 [it] */
-    VEX_BAD_BITS = 4,        /* opcode 0 is neither nop nor stop, or a bit that should be zero is set [the syllable] */
-    VEX_BAD_CLUSTER = 5,     /* an instruction's first syllable lacks bit 30; more clusters are opened than the table has; control stands
-                                outside cluster 0; a copy is from its own cluster or from one the table has not [the syllable] */
+    VEX_BAD_BITS = 4,        /* opcode 0 is no nop, stop, call or return, or a bit that should be zero is set [the syllable] */
+    VEX_BAD_CLUSTER = 5,     /* an instruction's first syllable lacks bit 30; more clusters are opened than the table has; control (stop, call,
+                                return, goto, br, brf) stands outside cluster 0; a copy is from its own cluster or from one the table has
+                                not [the syllable] */
     VEX_TOO_WIDE = 6,        /* a cluster has more syllables than its width or more of a class than its count; or there are two control
                                 syllables [the instruction's first syllable] */
     VEX_TWO_WRITES = 7,      /* an instruction names one register, not register 0, twice as destination [its first syllable] */
-    VEX_BAD_CONTROL = 8,     /* a target is no instruction's first syllable; a stop has company [the control syllable]; the last
-                                instruction has neither goto nor stop [its first syllable] */
-    VEX_TOO_SOON = 9,        /* check only: a register is read or written while a result for it may be in flight [first syllables: the
-                                producer's in the count's field, the consumer's in the place's] */
+    VEX_BAD_CONTROL = 8,     /* a target, call's too, is no instruction's first syllable; a stop or a return has company [the control
+                                syllable]; the last instruction has neither goto, stop nor return [its first syllable] */
+    VEX_TOO_SOON = 9,        /* check only: a register is read or written while a result for it may be in flight; an instruction with call or
+                                return counts as if it read every register [first syllables: the producer's in the count's field, the
+                                consumer's in the place's] */
     VEX_BAD_STATE = 10,      /* run: the state image is not valid [0]. It is valid if its place is an instruction's first syllable, general
                                 register 0 of each cluster is all zero, landing <= busy <= 7, waiting is 0 where landing is 0, and branch
-                                registers hold, and wait for, 0 or 1. What run leaves is always valid */
-    VEX_IN_FLIGHT = 11,      /* run: a register that is busy is read or is a destination [11 to 14: the instruction's first syllable] */
+                                registers hold, and wait for, 0 or 1; the link register may be any word. What run leaves is always valid */
+    VEX_IN_FLIGHT = 11,      /* run: a register that is busy is read or is a destination; or, in an instruction with call or return, any
+                                register at all is busy, also of a cluster the table has not [11 to 14 and 17: the instruction's first syllable] */
     VEX_MISALIGNED = 12,     /* run: an address is no multiple of the access size */
     VEX_OUT_OF_BOUNDS = 13,  /* run: an access ends beyond the memory */
     VEX_STORES_CLASH = 14,   /* run: two stores of one instruction share a byte */
+    VEX_BAD_LINK = 17,       /* run: at a return, the link register is not the place of an instruction's first syllable */
     VEX_STOPPED = 255        /* run: the effect is at a stop [the stop] */
 };
 
@@ -114,10 +122,10 @@ uint32_t vex_load(const uint8_t *table, size_t table_len, const uint8_t *program
 
 /* Loads and checks the schedule: 0 to 8 as vex_load, then 9. Everything else as for vex_load. Of a program that passes, run in one call from a
  * valid image in which every busy is 0, as one of zeros: it never gives 11, and number, count, place and memory are the same whatever the landing
- * bytes are; so are the registers, once everything in flight has landed. */
+ * bytes are; so are the registers, the link register among them, once everything in flight has landed. */
 uint32_t vex_check(const uint8_t *table, size_t table_len, const uint8_t *program, size_t program_len, uint8_t *room, size_t room_len);
 
-/* Runs at most n instructions from where the state stands. Gives 0 to 8, 10 to 14 and 255; the schedule is not checked.
+/* Runs at most n instructions from where the state stands. Gives 0 to 8, 10 to 14, 17 and 255; the schedule is not checked.
  *   table, program   read
  *   state            the image; written with where the effect stands
  *   memory           written by the effect's stores
@@ -130,7 +138,7 @@ uint32_t vex_check(const uint8_t *table, size_t table_len, const uint8_t *progra
  * Returns the number, also where the room cannot be written. State and memory after the call:
  *   0                n instructions are done; call again to go on
  *   255              all before the stop are done and everything has landed; the stop is not counted, and the place stays at it
- *   11 to 14         all before the faulting instruction are done, nothing of it is; a further call with n above 0 faults at the same place
+ *   11 to 14, 17     all before the faulting instruction are done, nothing of it is; a further call with n above 0 faults at the same place
  *   1 to 8, 10       state and memory are as they were, and the count is 0 */
 uint32_t vex_run(const uint8_t *table, size_t table_len, const uint8_t *program, size_t program_len, uint8_t *state, size_t state_len,
                  uint8_t *memory, size_t memory_len, const uint8_t *landing, size_t landing_len, uint32_t n, uint8_t *room, size_t room_len);

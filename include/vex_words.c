@@ -19,7 +19,7 @@ const char *vex_words(struct vex_answer answer) {
     static const char *const lengths[] = {
         "the program is not 1 to 4,096 syllables of 4 bytes",
         "the memory has more than 65,536 bytes",
-        "the state image is not 2,884 bytes",
+        "the state image is not 2,888 bytes",
         "the answer room is not 12 bytes",
     };
     switch (answer.number) {
@@ -31,7 +31,7 @@ const char *vex_words(struct vex_answer answer) {
     case VEX_BAD_CLUSTER: return "a cluster is not opened, is not there, or is none for this operation";
     case VEX_TOO_WIDE: return "the instruction has more syllables or operations than a cluster takes, or two control syllables";
     case VEX_TWO_WRITES: return "the instruction writes one register twice";
-    case VEX_BAD_CONTROL: return "a target starts no instruction, a stop has company, or the last instruction neither jumps nor stops";
+    case VEX_BAD_CONTROL: return "a target starts no instruction, a stop or return has company, or the last instruction has no goto, stop or return";
     case VEX_TOO_SOON: return "a register is read or written before a result for it is due";
     case VEX_BAD_STATE: return "the state is not valid";
     case VEX_IN_FLIGHT: return "a register is read or written while its result is in flight";
@@ -39,6 +39,7 @@ const char *vex_words(struct vex_answer answer) {
     case VEX_OUT_OF_BOUNDS: return "an access goes beyond the memory";
     case VEX_STORES_CLASH: return "two stores of one instruction share a byte";
     case 16: return "a line of the text is bad or missing"; /* the text program's */
+    case VEX_BAD_LINK: return "a return goes to a link that starts no instruction";
     case VEX_STOPPED: return "stopped";
     default: return "no number of the sandbox";
     }
@@ -47,6 +48,7 @@ const char *vex_words(struct vex_answer answer) {
 /* Syllables. docs/MACHINE.md has the table of opcodes. */
 
 enum form { STILL, TWO, ONE, CARRY, TEST, SELECT, LOAD, STORE, COPY, GOTO, FORK };
+enum still { NOP, STOP, CALL, RETURN, STILLS }; /* the numbers of opcode 0 */
 
 static enum form form_of(unsigned opcode) {
     return opcode == 0 ? STILL : opcode <= 18 ? TWO : opcode <= 22 ? ONE : opcode == 23 ? CARRY : opcode <= 39 ? TWO : opcode <= 49 ? TEST
@@ -62,19 +64,38 @@ static uint32_t widened(uint32_t v, unsigned width) {
     return (v ^ sign) - sign;
 }
 
+/* Whether it is this one of opcode 0. */
+static int is_still(uint32_t s, enum still kind) {
+    return bits(s, 29, 24) == 0 && bits(s, 23, 18) == (uint32_t)kind;
+}
+
 static const char *name_of(uint32_t s) {
+    static const char stills[STILLS][8] = {"nop", "stop", "call", "return"};
     static const char names[64][8] = {
         "nop",    "add",    "sub",    "and",    "andc",   "or",     "orc",    "xor",    "shl",    "shr",    "shru",   "sh1add", "sh2add",
         "sh3add", "sh4add", "max",    "maxu",   "min",    "minu",   "sxtb",   "sxth",   "zxtb",   "zxth",   "addcg",  "mpyll",  "mpyllu",
         "mpylh",  "mpylhu", "mpyhh",  "mpyhhu", "cmpeq",  "cmpne",  "cmplt",  "cmple",  "cmpgt",  "cmpge",  "cmpltu", "cmpleu", "cmpgtu",
         "cmpgeu", "cmpeq",  "cmpne",  "cmplt",  "cmple",  "cmpgt",  "cmpge",  "cmpltu", "cmpleu", "cmpgtu", "cmpgeu", "slct",   "slctf",
         "ldw",    "ldh",    "ldhu",   "ldb",    "ldbu",   "stw",    "sth",    "stb",    "copy",   "goto",   "br",     "brf"};
-    return bits(s, 29, 24) == 0 && bits(s, 23, 18) != 0 ? "stop" : names[bits(s, 29, 24)];
+    return bits(s, 29, 24) == 0 && bits(s, 23, 18) < STILLS ? stills[bits(s, 23, 18)] : names[bits(s, 29, 24)];
+}
+
+static int has_target(uint32_t s) {
+    return bits(s, 29, 24) > 60 || is_still(s, CALL);
+}
+
+/* Stop and return stand alone. */
+static int is_solitary(uint32_t s) {
+    return is_still(s, STOP) || is_still(s, RETURN);
 }
 
 static int is_control(uint32_t s) {
-    unsigned opcode = bits(s, 29, 24);
-    return opcode > 60 || (opcode == 0 && bits(s, 23, 18) == 1);
+    return has_target(s) || is_solitary(s);
+}
+
+/* Goto, stop and return never go on to the instruction after them; what has one of them may end a program. */
+static int leaves(uint32_t s) {
+    return bits(s, 29, 24) == 61 || is_solitary(s);
 }
 
 /* Registers by their index in the image; general register 0 is none. */
@@ -105,9 +126,12 @@ static void decode(struct vex_operation *o) {
     o->last = (int)(s >> 31);
     o->number = 0;
     o->reads[0] = o->reads[1] = o->reads[2] = o->results[0] = o->results[1] = VEX_NO_REGISTER;
+    o->reads_every = is_still(s, CALL) || is_still(s, RETURN);
     o->bytes = o->opcode >= 52 && o->opcode <= 59 ? sizes[o->opcode - 52] : 0;
     switch (form_of(o->opcode)) {
-    case STILL: break;
+    case STILL:
+        if (is_still(s, CALL)) o->number = bits(s, 17, 0);
+        break;
     case TWO:
     case TEST:
         o->reads[0] = s1;
@@ -130,7 +154,7 @@ static void decode(struct vex_operation *o) {
 static uint32_t zero_bits(uint32_t s) {
     uint32_t beside = bits(s, 11, 11) ? 0 : 0x7C0; /* 10..6 */
     switch (form_of(bits(s, 29, 24))) {
-    case STILL: return bits(s, 23, 18) > 1 ? 0xFFFFFF : 0x3FFFF;
+    case STILL: return is_still(s, CALL) ? 0 : 0x3FFFF;
     case TWO: return beside;
     case ONE: return 0xFFF;
     case TEST: return 0xE00000 | beside;
@@ -204,11 +228,12 @@ uint32_t vex_address(const struct vex_given *given, const struct vex_operation *
 
 /* Whether o reads or writes a register; in words, or NULL. */
 static const char *touches(const struct vex_operation *o, unsigned r) {
+    if (r == VEX_NO_REGISTER) return NULL;
     for (int i = 0; i < 3; i++)
-        if (r != VEX_NO_REGISTER && o->reads[i] == r) return "reads";
+        if (o->reads[i] == r) return "reads";
     for (int i = 0; i < 2; i++)
-        if (r != VEX_NO_REGISTER && o->results[i] == r) return "writes";
-    return NULL;
+        if (o->results[i] == r) return "writes";
+    return o->reads_every ? "reads" : NULL;
 }
 
 /* The causes. Each says one, or nothing. */
@@ -256,8 +281,8 @@ static void bad_table(const struct vex_given *g, struct text *t) {
 static void bad_bits(const struct vex_given *g, uint32_t place, struct text *t) {
     if (place >= syllables(g)) return;
     uint32_t s = syllable_at(g, place), stray = s & zero_bits(s);
-    if (bits(s, 29, 24) == 0 && bits(s, 23, 18) > 1) {
-        say(t, "opcode 0 has %lu in bits 23..18, and may have 0 (nop) or 1 (stop)", (unsigned long)bits(s, 23, 18));
+    if (bits(s, 29, 24) == 0 && bits(s, 23, 18) >= STILLS) {
+        say(t, "opcode 0 has %lu in bits 23..18, and may have 0 (nop), 1 (stop), 2 (call) or 3 (return)", (unsigned long)bits(s, 23, 18));
     } else if (stray != 0) {
         say(t, "%s must have zero in bits", name_of(s));
         for (unsigned bit = 24; bit-- > 0;)
@@ -331,15 +356,17 @@ static void two_writes(const struct vex_given *g, uint32_t place, struct text *t
 static void bad_control(const struct vex_given *g, uint32_t place, struct text *t) {
     struct vex_operation o;
     if (!vex_first_operation(g, place, &o)) return;
-    if (o.opcode > 60 && !starts(g, o.number)) {
+    if (has_target(o.syllable) && !starts(g, o.number)) {
         say(t, "%s goes to syllable %lu, which starts no instruction", o.name, (unsigned long)o.number);
-    } else if (o.opcode == 0 && is_control(o.syllable) && !(starts(g, place) && o.last)) {
-        say(t, "stop is not alone in its instruction");
+    } else if (is_solitary(o.syllable) && !(starts(g, place) && o.last)) {
+        say(t, "%s is not alone in its instruction", o.name);
     } else if (starts(g, place)) {
-        int leaves = 0;
+        int left = 0, calls = 0;
         EACH_OPERATION(o, g, place) {
-            leaves |= o.opcode == 61 || (o.opcode == 0 && is_control(o.syllable));
-            if (o.last && o.place + 1 == syllables(g) && !leaves) say(t, "the last instruction has neither goto nor stop");
+            left |= leaves(o.syllable);
+            calls |= is_still(o.syllable, CALL);
+            if (!o.last || o.place + 1 != syllables(g) || left) continue;
+            say(t, "the last instruction has %s goto, stop nor return", calls ? "a call, but neither" : "neither");
         }
     }
 }
@@ -353,8 +380,8 @@ static void reach(const struct vex_given *g, uint32_t place, uint8_t into[PLACES
     int along = 1;
     EACH_OPERATION(o, g, place) {
         following = (size_t)o.place + 1;
-        if (o.opcode > 60 && o.number < count) into[o.number] = 1;
-        if (o.opcode == 61 || (o.opcode == 0 && is_control(o.syllable))) along = 0;
+        if (has_target(o.syllable) && o.number < count) into[o.number] = 1;
+        if (leaves(o.syllable) || is_still(o.syllable, CALL)) along = 0;
     }
     if (along && following < count) into[following] = 1;
 }
@@ -383,9 +410,9 @@ static void too_soon(const struct vex_given *g, uint32_t p, uint32_t q, struct t
                 const char *how = touched_at(g, q, o.results[i], &by);
                 unsigned delay = vex_delay(g, &o, o.results[i]);
                 if (how == NULL || k >= delay) continue;
-                say(t, "%s at syllable %lu takes %u instructions for %s, and %s at syllable %lu %s it %u instruction%s later", o.name,
-                    (unsigned long)o.place, delay, vex_register_name(o.results[i], name), by.name, (unsigned long)by.place, how, k,
-                    k == 1 ? "" : "s");
+                say(t, "%s at syllable %lu takes %u instructions for %s, and %s at syllable %lu %s %s %u instruction%s later", o.name,
+                    (unsigned long)o.place, delay, vex_register_name(o.results[i], name), by.name, (unsigned long)by.place, how,
+                    by.reads_every ? "every register" : "it", k, k == 1 ? "" : "s");
                 return;
             }
     }
@@ -417,16 +444,16 @@ static void bad_state(const struct vex_given *g, struct text *t) {
 static void in_flight(const struct vex_given *g, uint32_t place, struct text *t) {
     struct vex_operation o;
     char name[VEX_NAME_BYTES];
-    EACH_OPERATION(o, g, place) {
-        unsigned used[] = {o.reads[0], o.reads[1], o.reads[2], o.results[0], o.results[1]};
-        for (int i = 0; i < 5; i++) {
-            unsigned busy = state_at(g, used[i])[VEX_REGISTER_BUSY];
-            if (used[i] == VEX_NO_REGISTER || busy == 0) continue;
-            say(t, "%s at syllable %lu %s %s, which is busy for %u more instruction%s", o.name, (unsigned long)o.place, touches(&o, used[i]),
-                vex_register_name(used[i], name), busy, busy == 1 ? "" : "s");
+    EACH_OPERATION(o, g, place)
+        for (unsigned r = 0; r < 288; r++) {
+            unsigned busy = state_at(g, r)[VEX_REGISTER_BUSY];
+            const char *how = touches(&o, r);
+            if (how == NULL || busy == 0) continue;
+            say(t, "%s at syllable %lu %s %s%s%s is busy for %u more instruction%s", o.name, (unsigned long)o.place, how,
+                o.reads_every ? "every register, and " : "", vex_register_name(r, name), o.reads_every ? "" : ", which", busy,
+                busy == 1 ? "" : "s");
             return;
         }
-    }
 }
 
 /* An access: what it does, with which register, and its address with the register that it comes from. */
@@ -471,6 +498,13 @@ static void stores_clash(const struct vex_given *g, uint32_t place, struct text 
     }
 }
 
+static void bad_link(const struct vex_given *g, uint32_t place, struct text *t) {
+    struct vex_operation o;
+    uint32_t link = g->state_len == VEX_STATE_BYTES ? vex_word(g->state + VEX_STATE_LINK) : 0;
+    if (!vex_first_operation(g, place, &o) || !is_still(o.syllable, RETURN) || starts(g, link)) return;
+    say(t, "return goes to the link register's place, %lu, which starts no instruction", (unsigned long)link);
+}
+
 size_t vex_cause(const struct vex_given *given, struct vex_answer answer, char *cause, size_t size) {
     struct text t = {cause, size, 0};
     if (size > 0) cause[0] = '\0';
@@ -487,6 +521,7 @@ size_t vex_cause(const struct vex_given *given, struct vex_answer answer, char *
     case VEX_MISALIGNED: bad_access(given, answer.place, 0, &t); break;
     case VEX_OUT_OF_BOUNDS: bad_access(given, answer.place, 1, &t); break;
     case VEX_STORES_CLASH: stores_clash(given, answer.place, &t); break;
+    case VEX_BAD_LINK: bad_link(given, answer.place, &t); break;
     default: break;
     }
     return t.length;

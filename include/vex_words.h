@@ -39,6 +39,7 @@ struct vex_operation {
     uint32_t place, syllable, number; /* number: an immediate or offset, widened; or a target */
     unsigned opcode, cluster, opened; /* opened: clusters opened in this instruction, with this syllable */
     unsigned reads[3], results[2];    /* reads: s1; s2; b or the stored register. results: t or d; addcg's d */
+    int reads_every;                  /* call and return: they read every register */
     unsigned bytes;                   /* of an access; else 0 */
     int last;                         /* bit 31 */
 };

@@ -48,7 +48,7 @@ def access(opcode):
     return lambda t, base, o=0: (opcode << 24 | t << 18 | base << 12 | offset(o), None)
 
 
-nop, stop = (0, None), (1 << 18, None)
+nop, stop, return_ = (0, None), (1 << 18, None), (3 << 18, None)
 add, sub, and_, andc, or_, orc, xor = map(three, range(1, 8))  # sub is s2 minus s1
 shl, shr, shru = map(three, range(8, 11))
 sh1add, sh2add, sh3add, sh4add = map(three, range(11, 15))
@@ -61,6 +61,11 @@ cmpeq_b, cmpne_b, cmplt_b, cmple_b, cmpgt_b, cmpge_b, cmpltu_b, cmpleu_b, cmpgtu
 slct, slctf = map(choice, (50, 51))
 ldw, ldh, ldhu, ldb, ldbu = map(access, range(52, 57))
 stw, sth, stb = map(access, range(57, 60))
+
+
+def call(label):
+    """To the label; return_ comes back to the instruction after this one. Nothing may be in flight at either."""
+    return 2 << 18, label
 
 
 def addcg(t, d, bit, s1, s2):

@@ -50,7 +50,8 @@ struct vex_answer run_machine(struct machine *m, uint32_t n);
 struct vex_answer trace_one(struct machine *m);
 unsigned long frame_length(const struct machine *m, unsigned long limit);
 
-/* show.c: prints a refusal or a fault in words, its cause and the instructions that it names; the registers that are not zero. */
+/* show.c: prints a refusal or a fault in words, its cause and the instructions that it names; the registers that are not zero, the link
+ * register among them. */
 void say_refusal(const char *entry, struct vex_answer answer, const struct vex_given *given);
 void say_registers(const struct machine *m);
 

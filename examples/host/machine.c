@@ -38,6 +38,11 @@ static void say_store(const struct vex_given *before, const struct vex_operation
            r == VEX_NO_REGISTER ? "register 0" : vex_register_name(r, name));
 }
 
+static void say_link(const struct machine *m) {
+    unsigned long link = vex_word(m->state.at + VEX_STATE_LINK);
+    printf("  %-9s link register = %08lX, syllable %lu\n", "sets", link, link);
+}
+
 /* What an instruction did: the state before it, and the machine after it. */
 static void say_instruction(const struct vex_given *before, struct machine *m) {
     struct vex_operation o;
@@ -60,6 +65,7 @@ static void say_instruction(const struct vex_given *before, struct machine *m) {
             say_cell(cell[VEX_REGISTER_LANDING] ? "in flight" : "lands", o.results[i], cell);
         }
         if (o.opcode >= 57 && o.opcode <= 59) say_store(before, &o);
+        if (strcmp(o.name, "call") == 0) say_link(m);
     }
 }
 

@@ -71,7 +71,7 @@ static uint32_t perform(enum entry entry, const struct call *c, size_t shift, co
 
 static uint8_t one_cluster[] = {1, 4, 4, 2, 1, 0, 1, 2, 2, 3, 1};
 static uint8_t two_clusters[] = {2, 4, 4, 2, 1, 1, 4, 4, 2, 1, 1, 1, 2, 2, 3, 1};
-static uint8_t state[VEX_STATE_BYTES], memory[VEX_MEMORY_BYTES_MAX + 1], program[32], room[2 * VEX_ROOM_BYTES];
+static uint8_t state[VEX_STATE_BYTES + 1], memory[VEX_MEMORY_BYTES_MAX + 1], program[32], room[2 * VEX_ROOM_BYTES];
 
 /* A call of a program with the first table, 64 bytes of memory, and a state of zeros. */
 static struct call call_of(const uint32_t *words, size_t count, uint32_t n) {
@@ -82,7 +82,7 @@ static struct call call_of(const uint32_t *words, size_t count, uint32_t n) {
     memset(room, 0x5A, sizeof room);
     c.given[TABLE] = (struct bytes){one_cluster, sizeof one_cluster};
     c.given[PROGRAM] = (struct bytes){program, 4 * count};
-    c.given[STATE] = (struct bytes){state, sizeof state};
+    c.given[STATE] = (struct bytes){state, VEX_STATE_BYTES};
     c.given[MEMORY] = (struct bytes){memory, 64};
     c.given[LANDING] = (struct bytes){NULL, 0};
     c.given[ROOM] = (struct bytes){room, VEX_ROOM_BYTES};
@@ -100,7 +100,7 @@ static const struct {
     {"the document's example", {0xC10C0805, 0xC0040000}, 2, 1, {{0, 0, 0}, {0, 0, 0}, {255, 1, 1}}},
     {"a loop", {0xFD000000}, 1, 1, {{0, 0, 0}, {0, 0, 0}, {0, 16, 0}}},
     {"no end", {0xC10C0805, 0x410C0805}, 2, 1, {{3, 0, 1}, {3, 0, 1}, {3, 0, 1}}},
-    {"neither nop nor stop", {0xC0040000, 0xC0080000}, 2, 1, {{4, 0, 1}, {4, 0, 1}, {4, 0, 1}}},
+    {"opcode 0 with number 4", {0xC0040000, 0xC0100000}, 2, 1, {{4, 0, 1}, {4, 0, 1}, {4, 0, 1}}},
     {"no cluster opened", {0xC10C0805, 0x80040000}, 2, 1, {{5, 0, 1}, {5, 0, 1}, {5, 0, 1}}},
     {"five syllables in a cluster of four", {0x40000000, 0, 0, 0, 0x80000000, 0xC0040000}, 6, 1, {{6, 0, 0}, {6, 0, 0}, {6, 0, 0}}},
     {"one register written twice", {0x410C0805, 0x810C0805, 0xC0040000}, 3, 1, {{7, 0, 0}, {7, 0, 0}, {7, 0, 0}}},
@@ -109,6 +109,10 @@ static const struct {
     {"a word at address 2", {0xC0000000, 0xF4040002, 0xC0040000}, 3, 1, {{0, 0, 0}, {0, 0, 0}, {12, 1, 1}}},
     {"a word at the memory's end", {0xC0000000, 0xF4040040, 0xC0040000}, 3, 1, {{0, 0, 0}, {0, 0, 0}, {13, 1, 1}}},
     {"two stores to one byte", {0x7B000000, 0xFB000000, 0xC0040000}, 3, 2, {{0, 0, 0}, {0, 0, 0}, {14, 0, 0}}},
+    {"a call and its return", {0xC0080002, 0xC0040000, 0xC00C0000}, 3, 1, {{0, 0, 0}, {0, 0, 0}, {255, 2, 1}}},
+    {"a return beside a nop", {0x40000000, 0x800C0000}, 2, 1, {{8, 0, 1}, {8, 0, 1}, {8, 0, 1}}},
+    {"a call at the end", {0xC0000000, 0xC0080000}, 2, 1, {{8, 0, 1}, {8, 0, 1}, {8, 0, 1}}},
+    {"a load in flight at a call", {0xF4040000, 0xC0080002, 0xC0040000}, 3, 1, {{0, 0, 0}, {9, 0, 1}, {11, 1, 1}}},
 };
 
 static void test_cases(void) {
@@ -132,9 +136,9 @@ static void test_lengths(void) {
         size_t length;
         uint32_t number, place;
     } wrong[] = {
-        {TABLE, 0, 1, 0},   {TABLE, 10, 1, 0},      {PROGRAM, 0, 2, 0}, {PROGRAM, 7, 2, 0}, {MEMORY, VEX_MEMORY_BYTES_MAX + 1, 2, 1},
-        {STATE, 0, 2, 2},   {STATE, 2883, 2, 2},    {ROOM, 0, 2, 3},    {ROOM, 11, 2, 3},   {ROOM, 13, 2, 3},
-        {ROOM, 24, 2, 3},
+        {TABLE, 0, 1, 0},   {TABLE, 10, 1, 0},      {PROGRAM, 0, 2, 0},  {PROGRAM, 7, 2, 0},  {MEMORY, VEX_MEMORY_BYTES_MAX + 1, 2, 1},
+        {STATE, 0, 2, 2},   {STATE, 2884, 2, 2},    {STATE, 2887, 2, 2}, {STATE, 2889, 2, 2},
+        {ROOM, 0, 2, 3},    {ROOM, 11, 2, 3},       {ROOM, 13, 2, 3},    {ROOM, 24, 2, 3},
     };
     for (size_t i = 0; i < sizeof wrong / sizeof wrong[0]; i++)
         for (size_t shift = 0; shift < ALIGNMENTS; shift++)
@@ -177,7 +181,7 @@ static void test_nothing(void) {
 
 /* The state as it stands goes into the next call. */
 static void go_on(void) {
-    memcpy(state, now[STATE], sizeof state);
+    memcpy(state, now[STATE], VEX_STATE_BYTES);
 }
 
 /* One register of the state: its value, waiting value, busy and landing. */
@@ -210,6 +214,39 @@ static void test_image(void) {
     printf("self-test: the image's layout, landing bytes, going on from a pause\n");
 }
 
+/* Whether the link register is this, and nothing else of the state but its place, this one, is other than it was given. */
+static int linked(const struct call *c, uint8_t place, uint8_t link) {
+    uint8_t after[VEX_STATE_BYTES];
+    memcpy(after, c->given[STATE].at, sizeof after);
+    after[VEX_STATE_PLACE + 3] = place;
+    after[VEX_STATE_LINK + 3] = link;
+    return memcmp(now[STATE], after, sizeof after) == 0;
+}
+
+/* A call and its return, one instruction a slice; then returns to places that start no instruction. */
+static void test_link(void) {
+    static const uint32_t words[] = {0xC0080003, 0x40000000, 0x80000000, 0xC00C0000}; /* call 3; two nops; return */
+    struct call c = call_of(words, 4, 1);
+    perform(RUN, &c, 2, "a call");
+    expect(answered(0, 1, 3) && linked(&c, 3, 1), "another answer or state", "a call");
+    go_on();
+    perform(RUN, &c, 2, "a return");
+    expect(answered(0, 1, 1) && linked(&c, 1, 1), "another answer or state", "a return");
+
+    static const uint8_t links[] = {2, 4, 255};
+    for (size_t i = 0; i < sizeof links; i++) {
+        c = call_of(words, 4, 16);
+        state[VEX_STATE_PLACE + 3] = 1;
+        state[VEX_STATE_LINK + 3] = links[i];
+        perform(RUN, &c, i, "a bad link");
+        expect(answered(17, 1, 3) && linked(&c, 3, links[i]), "another answer or state", "a bad link");
+        go_on();
+        perform(RUN, &c, i, "a bad link again");
+        expect(answered(17, 0, 3) && as_given(&c, STATE), "another answer or state", "a bad link again");
+    }
+    printf("self-test: the link register, returns to where no instruction starts\n");
+}
+
 static void test_states(void) {
     struct call c = call_of(cases[10].words, cases[10].count, 16);
     perform(RUN, &c, 5, "a fault");
@@ -233,6 +270,7 @@ int self_test(void) {
     test_lengths();
     test_nothing();
     test_image();
+    test_link();
     test_states();
     printf("self-test: %d calls, %d failures\n", calls, failures);
     return failures;

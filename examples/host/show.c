@@ -40,4 +40,6 @@ void say_registers(const struct machine *m) {
         if (landing > 0) printf(", landing %u, waiting %08lX", landing, (unsigned long)waiting);
         printf("\n");
     }
+    unsigned long link = vex_word(m->state.at + VEX_STATE_LINK);
+    if (link != 0) printf("  link register: value %08lX, syllable %lu\n", link, link);
 }

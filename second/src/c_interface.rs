@@ -88,7 +88,7 @@ mod tests {
         assert_eq!(nothing, 1);
         let table = [1u8, 4, 4, 2, 1, 0, 1, 2, 2, 3, 1];
         let program = [0xC0u8, 4, 0, 0];
-        let (mut state, mut room) = ([0u8; 2884], [9u8; 12]);
+        let (mut state, mut room) = ([0u8; 2888], [9u8; 12]);
         let number = unsafe {
             vex_run(
                 table.as_ptr(),

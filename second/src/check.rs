@@ -51,6 +51,8 @@ mod tests {
     const NOP: u32 = ALONE;
     const GOTO: u32 = ALONE | 61 << 24;
     const BR: u32 = ALONE | 62 << 24;
+    const CALL: u32 = ALONE | 2 << 18;
+    const RETURN: u32 = ALONE | 3 << 18;
 
     fn load_word(t: u32) -> u32 {
         ALONE | 52 << 24 | t << 18
@@ -70,8 +72,12 @@ mod tests {
 
     /// Delays ALU 1, CMPB 2, MUL 2, LOAD 3, COPY 1.
     fn clash(words: &[u32]) -> Option<(u32, u32)> {
+        clash_with(3, words)
+    }
+
+    fn clash_with(load_delay: u8, words: &[u32]) -> Option<(u32, u32)> {
         let bytes: Vec<u8> = words.iter().flat_map(|word| word.to_be_bytes()).collect();
-        let one = [1, 4, 4, 2, 1, 0, 1, 2, 2, 3, 1];
+        let one = [1, 4, 4, 2, 1, 0, 1, 2, 2, load_delay, 1];
         let (table, program) = load(&one, &bytes, Lengths::of_load(12)).unwrap();
         check(&table, &program).map(|clash| (clash.producer, clash.consumer))
     }
@@ -112,6 +118,41 @@ mod tests {
     #[test]
     fn a_producer_that_cannot_be_reached_counts() {
         assert_eq!(clash(&[GOTO | 3, multiply(1, 2), add(3, 1), STOP]), Some((1, 2)));
+    }
+
+    #[test]
+    fn call_and_return_read_every_register() {
+        // LOAD 3: at two nexts too soon, at three not; nobody else names register 1 or branch register 5.
+        assert_eq!(clash(&[load_word(1), NOP, CALL | 3, STOP]), Some((0, 2)));
+        assert_eq!(clash(&[load_word(1), NOP, NOP, CALL | 4, STOP]), None);
+        assert_eq!(clash(&[load_word(1), NOP, RETURN]), Some((0, 2)));
+        assert_eq!(clash(&[load_word(1), NOP, NOP, RETURN]), None);
+        // CMPB 2.
+        assert_eq!(clash(&[compare(5), CALL | 2, STOP]), Some((0, 1)));
+        assert_eq!(clash(&[compare(5), RETURN]), Some((0, 1)));
+        assert_eq!(clash(&[compare(5), NOP, RETURN]), None);
+        // Register 0 is never in flight.
+        assert_eq!(clash(&[load_word(0), RETURN]), None);
+    }
+
+    #[test]
+    fn the_next_of_a_call_is_its_target_only() {
+        let (load_and, call_to) = (load_word(1) & !(1 << 31), 1 << 31 | 2 << 18);
+        // The call's own load, read at the target after one next.
+        assert_eq!(clash(&[load_and, call_to | 3, STOP, add(2, 1), STOP]), Some((0, 3)));
+        // The following instruction reads it, but it is no next; the return comes after three.
+        assert_eq!(clash(&[load_and, call_to | 4, add(2, 1), STOP, NOP, NOP, RETURN]), None);
+        assert_eq!(clash(&[load_and, call_to | 4, add(2, 1), STOP, NOP, RETURN]), Some((0, 5)));
+        // A call to itself is its own consumer.
+        assert_eq!(clash(&[load_and, call_to, STOP]), Some((0, 0)));
+    }
+
+    #[test]
+    fn a_return_has_no_nexts() {
+        // Three nexts from the load at 2 the goto leads back to 0, which reads register 1.
+        assert_eq!(clash_with(4, &[add(2, 1), STOP, load_word(1), NOP, GOTO]), Some((2, 0)));
+        // The return in the nop's place ends the way and is itself the only consumer.
+        assert_eq!(clash_with(4, &[add(2, 1), STOP, load_word(1), RETURN, GOTO]), Some((2, 3)));
     }
 
     #[test]

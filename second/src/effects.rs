@@ -1,11 +1,12 @@
 //! What one instruction does. All operands and loaded bytes are read before anything is written.
 
-use crate::program::Instruction;
+use crate::program::{Instruction, Program};
 use crate::syllable::{Register, Syllable};
 use crate::table::Table;
 use crate::values;
+use std::cmp::Ordering;
 
-/// A fault 11 to 14; its place is always the instruction's first syllable.
+/// A fault 11 to 14 or 17; its place is always the instruction's first syllable.
 #[derive(Clone, Copy, Debug, PartialEq, Eq)]
 pub struct Fault {
     pub number: u32,
@@ -25,18 +26,33 @@ pub struct Store {
     pub bytes: Vec<u8>,
 }
 
-/// Everything an instruction leaves behind: its results by syllable, its stores, its next place.
+/// Everything an instruction leaves behind: its results by syllable, its stores, its next place, the link register.
 pub struct Effects {
     pub outcomes: Vec<Outcome>,
     pub stores: Vec<Store>,
     pub next: u32,
+    pub link: u32,
 }
 
 type Read<'a> = &'a dyn Fn(Register) -> u32;
 
-/// Faults 12 and 13 syllable by syllable, then 14; fault 11 has been excluded before.
-pub fn effects(table: &Table, instruction: &Instruction, read: Read, memory: &[u8]) -> Result<Effects, Fault> {
-    let mut effects = Effects { outcomes: Vec::new(), stores: Vec::new(), next: instruction.following() };
+/// Fault 17, then 12 and 13 syllable by syllable, then 14; fault 11 has been excluded before.
+pub fn effects(
+    table: &Table,
+    program: &Program,
+    instruction: &Instruction,
+    read: Read,
+    link: u32,
+    memory: &[u8],
+) -> Result<Effects, Fault> {
+    let mut effects = Effects { outcomes: Vec::new(), stores: Vec::new(), next: instruction.following(), link };
+    if instruction.is_return() {
+        fault_17(program, link)?;
+        effects.next = link;
+    }
+    if instruction.has_call() {
+        effects.link = instruction.following();
+    }
     for placed in &instruction.syllables {
         let (syllable, cluster) = (placed.syllable, placed.cluster);
         if syllable.is_load() || syllable.is_store() {
@@ -61,6 +77,19 @@ pub fn effects(table: &Table, instruction: &Instruction, read: Read, memory: &[u
         return Err(Fault { number: 14, cause: "two stores share a byte" });
     }
     Ok(effects)
+}
+
+/// The link register must name an instruction's first syllable when a return runs.
+fn fault_17(program: &Program, link: u32) -> Result<(), Fault> {
+    if program.starting_at(link).is_some() {
+        return Ok(());
+    }
+    let cause = match link.cmp(&program.end()) {
+        Ordering::Less => "link inside an instruction",
+        Ordering::Equal => "link at the program's end",
+        Ordering::Greater => "link beyond the program",
+    };
+    Err(Fault { number: 17, cause })
 }
 
 /// Where a load or store goes, or fault 12, or fault 13.
@@ -94,7 +123,7 @@ fn result_value(syllable: Syllable, cluster: u32, register: Register, read: Read
     }
 }
 
-/// goto always; br on 1, brf on 0.
+/// goto and call always; br on 1, brf on 0.
 fn is_taken(syllable: Syllable, cluster: u32, read: Read) -> bool {
     match syllable.b(cluster) {
         None => true,

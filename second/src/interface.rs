@@ -65,7 +65,7 @@ mod tests {
             let mut room = vec![0xEE; size];
             assert_eq!(load(&ONE, &STOP, &mut room), 2);
             assert_eq!(check(&[], &STOP, &mut room), 1);
-            assert_eq!(run(&ONE, &STOP, &mut [0; 2884], &mut [], &[], 1, &mut room), 2);
+            assert_eq!(run(&ONE, &STOP, &mut [0; 2888], &mut [], &[], 1, &mut room), 2);
             assert_eq!(room, vec![0xEE; size]);
         }
     }

@@ -8,7 +8,7 @@ use std::cmp::Ordering;
 
 pub const MOST_SYLLABLES: usize = 4096;
 pub const MOST_MEMORY: usize = 65_536;
-pub const IMAGE_SIZE: usize = 2884;
+pub const IMAGE_SIZE: usize = 2888;
 pub const ROOM_SIZE: usize = 12;
 
 /// The lengths refusal 2 looks at; load and check take no memory and no state image.
@@ -168,14 +168,13 @@ fn number_8(program: &Program) -> Vec<Refusal> {
     let mut breaks = Vec::new();
     let last = program.instructions.len() - 1;
     for (index, instruction) in program.instructions.iter().enumerate() {
-        if index == last && !instruction.has_goto() && !instruction.is_stop() {
+        if index == last && !instruction.has_goto() && !instruction.is_stop() && !instruction.is_return() {
             breaks.push(Refusal::new(8, instruction.place, last_cause(instruction)));
         }
         for placed in &instruction.syllables {
             if let Some(target) = placed.syllable.target() {
                 if program.starting_at(target).is_none() {
-                    let end = program.instructions[last].following();
-                    let cause = match target.cmp(&end) {
+                    let cause = match target.cmp(&program.end()) {
                         Ordering::Less => "target inside an instruction",
                         Ordering::Equal => "target at the program's end",
                         Ordering::Greater => "target beyond the program",
@@ -186,6 +185,9 @@ fn number_8(program: &Program) -> Vec<Refusal> {
             if placed.syllable.is_stop() && instruction.syllables.len() > 1 {
                 breaks.push(Refusal::new(8, placed.place, "stop has company"));
             }
+            if placed.syllable.is_return() && instruction.syllables.len() > 1 {
+                breaks.push(Refusal::new(8, placed.place, "return has company"));
+            }
         }
     }
     breaks
@@ -193,6 +195,8 @@ fn number_8(program: &Program) -> Vec<Refusal> {
 
 fn last_cause(instruction: &Instruction) -> &'static str {
     match instruction.target() {
+        // A return may come back to what follows the call.
+        Some(_) if instruction.has_call() => "last instruction a call",
         Some(_) => "last instruction a branch",
         None => "last instruction plain",
     }
@@ -211,6 +215,8 @@ mod tests {
     const NOP: u32 = 0;
     const GOTO: u32 = 61 << 24;
     const BR: u32 = 62 << 24;
+    const CALL: u32 = 2 << 18;
+    const RETURN: u32 = 3 << 18;
 
     fn add(t: u32, s1: u32, s2: u32) -> u32 {
         1 << 24 | t << 18 | s1 << 12 | s2
@@ -237,6 +243,11 @@ mod tests {
         assert_eq!(given(&[STOP]), (0, 0));
         assert_eq!(given(&[END | OPEN | GOTO]), (0, 0));
         assert_eq!(given(&[OPEN | add(1, 2, 3), END | OPEN | add(1, 2, 3), STOP]), (0, 0));
+        assert_eq!(given(&[END | OPEN | RETURN]), (0, 0));
+        // A call of the return at place 2, with company on both sides and in cluster 1.
+        assert_eq!(given(&[END | OPEN | CALL | 2, STOP, END | OPEN | RETURN]), (0, 0));
+        let crowd = [OPEN | add(1, 2, 3), CALL | 4, END | OPEN | add(1, 2, 3), STOP, END | OPEN | RETURN];
+        assert_eq!(given(&crowd), (0, 0));
     }
 
     #[test]
@@ -245,12 +256,15 @@ mod tests {
             let lengths = Lengths { memory: Some(memory), image: Some(image), room };
             load(&TWO, &STOP.to_be_bytes().repeat(2000)[..program], lengths).err().map(|r| (r.number, r.place))
         };
-        assert_eq!(sized(4, 65_536, 2884, 12), None);
-        assert_eq!(sized(0, 65_537, 2883, 11), Some((2, 0)));
-        assert_eq!(sized(5, 0, 2884, 12), Some((2, 0)));
-        assert_eq!(sized(4, 65_537, 2883, 11), Some((2, 1)));
-        assert_eq!(sized(4, 65_536, 2885, 11), Some((2, 2)));
-        assert_eq!(sized(4, 65_536, 2884, 13), Some((2, 3)));
+        assert_eq!(sized(4, 65_536, 2888, 12), None);
+        assert_eq!(sized(0, 65_537, 2887, 11), Some((2, 0)));
+        assert_eq!(sized(5, 0, 2888, 12), Some((2, 0)));
+        assert_eq!(sized(4, 65_537, 2887, 11), Some((2, 1)));
+        assert_eq!(sized(4, 65_536, 2888, 13), Some((2, 3)));
+        // 2,884 bytes are an image without the link register.
+        for image in [0, 4, 2884, 2887, 2889, 2892] {
+            assert_eq!(sized(4, 65_536, image, 11), Some((2, 2)));
+        }
     }
 
     #[test]
@@ -265,7 +279,11 @@ mod tests {
         // A lower place under 4 does not come before 3.
         assert_eq!(given(&[STOP | 1, OPEN | NOP]), (3, 1));
         assert_eq!(given(&[STOP, STOP | 1]), (4, 1));
-        assert_eq!(given(&[END | OPEN | 2 << 18, STOP]), (4, 0));
+        assert_eq!(given(&[END | OPEN | 4 << 18, STOP]), (4, 0));
+        assert_eq!(given(&[END | OPEN | 63 << 18, STOP]), (4, 0));
+        for bit in [0, 11, 17] {
+            assert_eq!(given(&[STOP, END | OPEN | RETURN | 1 << bit]), (4, 1));
+        }
     }
 
     #[test]
@@ -274,6 +292,8 @@ mod tests {
         let three = [OPEN | NOP, OPEN | NOP, END | OPEN | NOP, STOP];
         assert_eq!(given(&three), (5, 2));
         assert_eq!(given(&[OPEN | NOP, END | OPEN | GOTO]), (5, 1));
+        assert_eq!(given(&[OPEN | NOP, END | OPEN | CALL, STOP]), (5, 1));
+        assert_eq!(given(&[OPEN | NOP, END | OPEN | RETURN]), (5, 1));
         assert_eq!(given(&[END | OPEN | copy(1, 1, 0), STOP]), (5, 0));
         assert_eq!(given(&[END | OPEN | copy(1, 1, 2), STOP]), (5, 0));
         assert_eq!(given(&[END | OPEN | copy(1, 1, 1), STOP]), (0, 0));
@@ -288,6 +308,11 @@ mod tests {
         assert_eq!(given(&[OPEN | GOTO, END | GOTO]), (6, 0));
         // Two stops are two control syllables before they are company.
         assert_eq!(given(&[OPEN | 1 << 18, END | 1 << 18]), (6, 0));
+        // So are call and return beside any other and beside each other.
+        for other in [1 << 18, CALL, RETURN, GOTO, BR] {
+            assert_eq!(given(&[STOP, OPEN | CALL, END | other, STOP]), (6, 1));
+            assert_eq!(given(&[STOP, OPEN | other, END | RETURN]), (6, 1));
+        }
     }
 
     #[test]
@@ -312,6 +337,26 @@ mod tests {
         assert_eq!(given(&[STOP, END | OPEN | NOP]), (8, 1));
         // The last instruction's first syllable lies before its bad target.
         assert_eq!(given(&[STOP, OPEN | NOP, END | BR | 9]), (8, 1));
+    }
+
+    #[test]
+    fn number_8_of_call_and_return() {
+        // Targets at the place after the last, far beyond and inside the second instruction.
+        for target in [4, 0x3_FFFF, 2] {
+            assert_eq!(given(&[END | OPEN | CALL | target, OPEN | NOP, END | NOP, STOP]), (8, 0));
+        }
+        assert_eq!(given(&[END | OPEN | CALL | 1, OPEN | NOP, END | NOP, STOP]), (0, 0));
+        // The call, not its instruction's first syllable, is named.
+        assert_eq!(given(&[OPEN | NOP, END | CALL | 9, STOP]), (8, 1));
+        // A return has no company, a nop neither, and is itself the place.
+        assert_eq!(given(&[STOP, OPEN | NOP, END | RETURN]), (8, 2));
+        assert_eq!(given(&[STOP, OPEN | RETURN, END | NOP]), (8, 1));
+        assert_eq!(given(&[STOP, OPEN | RETURN, END | OPEN | NOP]), (8, 1));
+        assert_eq!(given(&[OPEN | add(1, 2, 3), END | RETURN, STOP]), (8, 1));
+        // A call is not enough for the last instruction, wherever it leads.
+        assert_eq!(given(&[STOP, END | OPEN | CALL]), (8, 1));
+        assert_eq!(given(&[STOP, OPEN | NOP, END | CALL]), (8, 1));
+        assert_eq!(given(&[STOP, OPEN | NOP, END | CALL | 9]), (8, 1));
     }
 
     #[test]

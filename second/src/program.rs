@@ -47,7 +47,7 @@ impl Instruction {
 
     pub fn reads(&self) -> Vec<Register> {
         let reads_of = |placed: &Placed| placed.syllable.reads(placed.cluster);
-        self.syllables.iter().flat_map(reads_of).collect()
+        self.syllables.iter().map(reads_of).collect::<Vec<_>>().concat()
     }
 
     pub fn destinations(&self) -> Vec<Register> {
@@ -74,6 +74,14 @@ impl Instruction {
         self.syllables.iter().any(|placed| placed.syllable.is_goto())
     }
 
+    pub fn has_call(&self) -> bool {
+        self.syllables.iter().any(|placed| placed.syllable.is_call())
+    }
+
+    pub fn is_return(&self) -> bool {
+        self.syllables.iter().any(|placed| placed.syllable.is_return())
+    }
+
     pub fn target(&self) -> Option<u32> {
         self.syllables.iter().find_map(|placed| placed.syllable.target())
     }
@@ -83,12 +91,12 @@ impl Instruction {
         self.place + self.syllables.len() as u32
     }
 
-    /// The places that may come next: both ways of a branch.
+    /// The places that may come next: both ways of a branch, the target alone of a call, nothing of a return.
     pub fn nexts(&self) -> Vec<u32> {
         match self.target() {
-            _ if self.is_stop() => vec![],
+            _ if self.is_stop() || self.is_return() => vec![],
             None => vec![self.following()],
-            Some(target) if self.has_goto() => vec![target],
+            Some(target) if self.has_goto() || self.has_call() => vec![target],
             Some(target) => vec![target, self.following()],
         }
     }
@@ -115,6 +123,11 @@ impl Program {
             }
         }
         Program { instructions, starts }
+    }
+
+    /// The place that comes after the last syllable of all.
+    pub fn end(&self) -> u32 {
+        self.starts.len() as u32
     }
 
     pub fn starting_at(&self, place: u32) -> Option<&Instruction> {

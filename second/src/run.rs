@@ -94,7 +94,7 @@ pub fn step(
     let instruction = at(program, state);
     fault_11(instruction, state)?;
     let read = |register| state.cell(register).value;
-    let effects = effects(table, instruction, &read, memory)?;
+    let effects = effects(table, program, instruction, &read, state.link, memory)?;
     // What was in flight before falls; the results of this instruction do not fall yet.
     for cell in &mut state.cells {
         cell.fall();
@@ -104,6 +104,8 @@ pub fn step(
         *state.cell_mut(outcome.register) = sent(state.cell(outcome.register), outcome.value, outcome.delay, d);
     }
     write_stores(&effects.stores, memory);
+    // Setting the link takes no landing byte: it stands there at once.
+    state.link = effects.link;
     state.place = effects.next;
     Ok(())
 }
@@ -140,6 +142,8 @@ mod tests {
     const NOP: u32 = ALONE;
     const OPEN: u32 = 1 << 30;
     const END: u32 = 1 << 31;
+    const CALL: u32 = 2 << 18;
+    const RETURN: u32 = 3 << 18;
 
     fn general(number: u32) -> Register {
         Register::General { cluster: 0, number }
@@ -301,6 +305,150 @@ mod tests {
             call.state.cell_mut(Register::Branch { cluster: 0, number: 3 }).value = b;
             assert_eq!(call.run(1), (0, 1, place));
             assert_eq!(call.run(1), (255, 0, place));
+        }
+    }
+
+    /// Adds 1 to register 1.
+    const COUNT: u32 = ALONE | 1 << 24 | 1 << 18 | 1 << 12 | 1 << 11 | 1;
+
+    #[test]
+    fn a_call_sets_the_link_at_once_and_a_return_keeps_it() {
+        let mut call = call(&[ALONE | CALL | 2, STOP, ALONE | RETURN]);
+        call.state.link = 0xFFFF_FFFF;
+        assert_eq!((call.run(0), call.state.link), ((0, 0, 0), 0xFFFF_FFFF));
+        assert_eq!((call.run(1), call.state.link), ((0, 1, 2), 1));
+        assert_eq!((call.run(0), call.state.link), ((0, 0, 2), 1));
+        assert_eq!((call.run(1), call.state.link), ((0, 1, 1), 1));
+        assert_eq!((call.run(1), call.state.link), ((255, 0, 1), 1));
+    }
+
+    #[test]
+    fn the_link_is_the_place_after_the_whole_instruction() {
+        let mut call = call(&[OPEN | put(1, 5), CALL | 4, END | put(2, 6), STOP, ALONE | put(3, 7), ALONE | RETURN]);
+        assert_eq!(call.run(1), (0, 1, 4));
+        assert_eq!((call.state.link, call.cell(1).0, call.cell(2).0, call.cell(3).0), (3, 5, 6, 0));
+        assert_eq!(call.run(9), (255, 2, 3));
+        assert_eq!((call.state.link, call.cell(3).0), (3, 7));
+    }
+
+    #[test]
+    fn one_subroutine_called_from_three_places() {
+        let mut call = call(&[ALONE | CALL | 4, ALONE | CALL | 4, ALONE | CALL | 4, STOP, COUNT, ALONE | RETURN]);
+        // Three times the call, the addition and the return.
+        assert_eq!(call.run(99), (255, 9, 3));
+        assert_eq!((call.cell(1).0, call.state.link), (3, 3));
+    }
+
+    #[test]
+    fn after_an_inner_call_its_return_comes_back_again_and_again() {
+        // 0 calls 2, which calls 5; then 3 and 4 go round, since the link stays 3.
+        let inner = [ALONE | CALL | 2, STOP, ALONE | CALL | 5, COUNT, ALONE | RETURN, ALONE | RETURN];
+        let mut call = call(&inner);
+        assert_eq!((call.run(1), call.state.link), ((0, 1, 2), 1));
+        assert_eq!((call.run(1), call.state.link), ((0, 1, 5), 3));
+        assert_eq!((call.run(1), call.state.link), ((0, 1, 3), 3));
+        assert_eq!((call.run(10), call.state.link), ((0, 10, 3), 3));
+        assert_eq!(call.cell(1).0, 5);
+    }
+
+    #[test]
+    fn results_of_a_call_go_in_flight_as_ever() {
+        // A load beside the call, LOAD 3; the link takes no landing byte.
+        let words = [OPEN | memory_op(56, 1, 0, 3), END | CALL | 3, STOP, NOP, NOP, ALONE | RETURN];
+        for (landing, cell) in [(vec![0], (0x80, 0, 2, 0)), (vec![1], (0, 0x80, 2, 1)), (vec![], (0, 0x80, 2, 2))] {
+            let mut call = call(&words);
+            call.memory[3] = 0x80;
+            call.landing = landing;
+            assert_eq!((call.run(1), call.state.link), ((0, 1, 3), 2));
+            assert_eq!(call.cell(1), cell);
+            assert_eq!((call.run(9), call.state.link), ((255, 3, 2), 2));
+            assert_eq!(call.cell(1), (0x80, 0, 0, 0));
+        }
+        // One instruction sooner the return is 11, landed or not.
+        let mut call = call(&[OPEN | memory_op(56, 1, 0, 3), END | CALL | 3, STOP, NOP, ALONE | RETURN]);
+        call.landing = vec![0];
+        assert_eq!((call.run(9), call.state.link), ((11, 2, 4), 2));
+        assert_eq!(call.cell(1).2, 1);
+    }
+
+    #[test]
+    fn call_and_return_fault_with_11_for_any_busy_register() {
+        for register in Register::ALL.into_iter().filter(|register| !register.is_register_0()) {
+            // A nop lets busy fall by one.
+            for (busy, number, count) in [(1, 0, 2), (2, 11, 1), (7, 11, 1)] {
+                let mut at_call = call(&[NOP, ALONE | CALL | 2, STOP]);
+                at_call.state.cell_mut(register).busy = busy;
+                assert_eq!(at_call.run(2), (number, count, if number == 0 { 2 } else { 1 }), "{register:?}");
+                assert_eq!(at_call.state.link, if number == 0 { 2 } else { 0 });
+                // The link is bad: 11 comes before 17.
+                let mut at_return = call(&[NOP, ALONE | RETURN]);
+                at_return.state.cell_mut(register).busy = busy;
+                at_return.state.link = 2;
+                let number = if number == 0 { 17 } else { 11 };
+                assert_eq!(at_return.run(2), (number, 1, 1), "{register:?}");
+            }
+        }
+    }
+
+    #[test]
+    fn a_return_to_no_first_syllable_is_17() {
+        let words = [NOP, OPEN, END, ALONE | RETURN];
+        // Inside an instruction, at the end, beyond it, and where the low bits would be good.
+        for link in [2, 4, 5, 0x1_0000, 0x4_0000, 0x8000_0000, 0xFFFF_FFFF] {
+            let mut call = call(&words);
+            (call.state.link, call.state.cell_mut(general(1)).value) = (link, 9);
+            assert_eq!(call.run(9), (17, 2, 3));
+            let before = call.state.clone();
+            // A second call faults at the same place, and n = 0 does nothing.
+            assert_eq!(call.run(9), (17, 0, 3));
+            assert_eq!(call.run(0), (0, 0, 3));
+            assert_eq!((call.state.link, &call.state), (link, &before));
+        }
+        for (link, place) in [(0, 0), (1, 1), (3, 3)] {
+            let mut call = call(&words);
+            (call.state.place, call.state.link) = (3, link);
+            assert_eq!((call.run(1), call.state.link), ((0, 1, place), link));
+        }
+    }
+
+    #[test]
+    fn a_call_whose_own_instruction_faults_keeps_the_link() {
+        let (misaligned, beyond) = (memory_op(52, 1, 0, 2), memory_op(52, 1, 0, 16));
+        let (word, byte) = (memory_op(57, 0, 0, 4), memory_op(59, 0, 0, 7));
+        for (number, parts) in [(12, vec![misaligned]), (13, vec![beyond]), (14, vec![word, byte])] {
+            for call_first in [true, false] {
+                let mut words = parts.clone();
+                words.insert(if call_first { 0 } else { parts.len() }, CALL);
+                words[0] |= OPEN;
+                let last = words.len() - 1;
+                words[last] |= END;
+                words.push(STOP);
+                let mut call = call(&words);
+                call.state.link = 77;
+                call.memory = vec![7; 16];
+                let before = call.state.clone();
+                assert_eq!(call.run(9), (number, 0, 0));
+                assert_eq!((&call.state, &call.memory), (&before, &vec![7; 16]));
+            }
+        }
+    }
+
+    #[test]
+    fn any_link_is_valid() {
+        for link in [0, 1, 2, 0x8000_0000, 0xFFFF_FFFF] {
+            let mut call = call(&[NOP, STOP]);
+            call.state.link = link;
+            assert_eq!((call.run(9), call.state.link), ((255, 1, 1), link));
+        }
+    }
+
+    #[test]
+    fn an_image_without_the_link_is_refused() {
+        let program = STOP.to_be_bytes();
+        for length in [2884, 2887, 2889] {
+            let mut image = vec![0; length];
+            let refusal = super::run(&ONE, &program, &mut image, &mut [], &[], 1, 12).unwrap_err();
+            assert_eq!((refusal.number, refusal.place), (2, 2));
         }
     }
 

@@ -45,6 +45,8 @@ pub struct State {
     pub place: u32,
     /// The 256 general registers by cluster, then the 32 branch registers by cluster.
     pub cells: [Cell; REGISTERS],
+    /// The link register: where a return goes; any 32 bits are valid.
+    pub link: u32,
 }
 
 /// Where a register stands among the cells.
@@ -58,7 +60,7 @@ pub fn index(register: Register) -> usize {
 impl State {
     /// Place 0, all zero.
     pub fn zero() -> State {
-        State { place: 0, cells: [Cell::default(); REGISTERS] }
+        State { place: 0, cells: [Cell::default(); REGISTERS], link: 0 }
     }
 
     pub fn cell(&self, register: Register) -> Cell {
@@ -75,12 +77,13 @@ impl State {
         }
     }
 
-    /// Reads an image of 2,884 bytes: the place, then each cell's value, waiting, busy, landing.
+    /// Reads an image of 2,888 bytes: the place, each cell's value, waiting, busy, landing, and the link register.
     pub fn from_image(image: &[u8]) -> State {
         assert_eq!(image.len(), IMAGE_SIZE);
         let word = |at: usize| u32::from_be_bytes([image[at], image[at + 1], image[at + 2], image[at + 3]]);
         let mut state = State::zero();
         state.place = word(0);
+        state.link = word(IMAGE_SIZE - 4);
         for (number, cell) in state.cells.iter_mut().enumerate() {
             let at = 4 + 10 * number;
             *cell = Cell { value: word(at), waiting: word(at + 4), busy: image[at + 8], landing: image[at + 9] };
@@ -95,6 +98,7 @@ impl State {
             image.extend(cell.waiting.to_be_bytes());
             image.extend([cell.busy, cell.landing]);
         }
+        image.extend(self.link.to_be_bytes());
         image
     }
 
@@ -141,10 +145,11 @@ mod tests {
             Cell { value: 5, waiting: 6, busy: 7, landing: 3 };
         *state.cell_mut(Register::Branch { cluster: 3, number: 7 }) =
             Cell { value: 1, waiting: 0, busy: 2, landing: 0 };
+        state.link = 0xF1F2_F3F4;
         let image = state.image();
-        assert_eq!(image.len(), 2884);
+        assert_eq!(image.len(), 2888);
         assert_eq!(image[..24], [1, 2, 3, 4, 0, 0, 0, 0, 0, 0, 0, 0, 0, 0, 0, 0, 0, 5, 0, 0, 0, 6, 7, 3]);
-        assert_eq!(image[2874..], [0, 0, 0, 1, 0, 0, 0, 0, 2, 0]);
+        assert_eq!(image[2874..], [0, 0, 0, 1, 0, 0, 0, 0, 2, 0, 0xF1, 0xF2, 0xF3, 0xF4]);
         assert_eq!(State::from_image(&image), state);
     }
 

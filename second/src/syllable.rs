@@ -23,6 +23,22 @@ pub enum Register {
 }
 
 impl Register {
+    /// All 288, those of clusters the table has not as well: general then branch registers by cluster.
+    pub const ALL: [Register; 288] = {
+        let mut all = [Register::General { cluster: 0, number: 0 }; 288];
+        let mut index = 0;
+        while index < 288 {
+            let at = index as u32;
+            all[index] = if at < 256 {
+                Register::General { cluster: at / 64, number: at % 64 }
+            } else {
+                Register::Branch { cluster: (at - 256) / 8, number: at % 8 }
+            };
+            index += 1;
+        }
+        all
+    };
+
     /// "Register 0" always means the general one; branch register 0 is ordinary.
     pub fn is_register_0(self) -> bool {
         matches!(self, Register::General { number: 0, .. })
@@ -50,6 +66,14 @@ impl Syllable {
         self.opcode() == 0 && self.bits(23, 18) == 1
     }
 
+    pub fn is_call(self) -> bool {
+        self.opcode() == 0 && self.bits(23, 18) == 2
+    }
+
+    pub fn is_return(self) -> bool {
+        self.opcode() == 0 && self.bits(23, 18) == 3
+    }
+
     pub fn is_goto(self) -> bool {
         self.opcode() == 61
     }
@@ -57,7 +81,7 @@ impl Syllable {
     pub fn class(self) -> Class {
         match self.opcode() {
             0 => {
-                if self.is_stop() {
+                if self.is_stop() || self.is_call() || self.is_return() {
                     Class::Control
                 } else {
                     Class::Nop
@@ -71,13 +95,14 @@ impl Syllable {
         }
     }
 
-    /// Refusal 4: names the break, if bits 23..18 of opcode 0 are above 1 or a bit not named is set.
+    /// Refusal 4: names the break, if bits 23..18 of opcode 0 are above 3 or a bit not named is set.
     pub fn stray_bits(self) -> Option<&'static str> {
         let opcode = self.opcode();
-        if opcode == 0 && self.bits(23, 18) > 1 {
-            return Some("bits 23..18 above 1");
+        if opcode == 0 && self.bits(23, 18) > 3 {
+            return Some("bits 23..18 above 3");
         }
-        if opcode == 0 && self.bits(17, 0) != 0 {
+        // A call has its target there.
+        if opcode == 0 && !self.is_call() && self.bits(17, 0) != 0 {
             return Some("bits 17..0");
         }
         if matches!(opcode, 40..=49) && self.bits(23, 21) != 0 {
@@ -128,9 +153,10 @@ impl Syllable {
         self.bits(1, 0)
     }
 
-    /// The syllable index that goto, br or brf names.
+    /// The syllable index that call, goto, br or brf names.
     pub fn target(self) -> Option<u32> {
         match self.opcode() {
+            0 if self.is_call() => Some(self.bits(17, 0)),
             61 => Some(self.bits(23, 0)),
             62 | 63 => Some(self.bits(20, 0)),
             _ => None,
@@ -169,8 +195,11 @@ impl Syllable {
         self.is_store().then(|| Register::General { cluster, number: self.bits(23, 18) })
     }
 
-    /// Every register the syllable reads, whatever the values are.
+    /// Every register the syllable reads, whatever the values are; call and return are taken to read every register.
     pub fn reads(self, cluster: u32) -> Vec<Register> {
+        if self.is_call() || self.is_return() {
+            return Register::ALL.to_vec();
+        }
         [self.s1(cluster), self.s2(cluster), self.b(cluster), self.stored(cluster)].into_iter().flatten().collect()
     }
 
@@ -262,12 +291,50 @@ mod tests {
     }
 
     #[test]
+    fn call_and_return() {
+        // Opcode 0 with 2 in bits 23..18 and all ones below, and with 3.
+        let (call, back) = (Syllable(0x000B_FFFF), Syllable(0x000C_0000));
+        assert!(call.is_call() && !call.is_return() && !call.is_stop());
+        assert!(back.is_return() && !back.is_call() && !back.is_stop());
+        assert_eq!((call.class(), back.class()), (Class::Control, Class::Control));
+        assert_eq!((call.target(), back.target()), (Some(0x3_FFFF), None));
+        assert_eq!((call.stray_bits(), back.stray_bits()), (None, None));
+        assert_eq!((call.destinations(0), back.destinations(0)), (vec![], vec![]));
+        // The same bits under another opcode are neither.
+        assert!(!Syllable(0x010B_FFFF).is_call() && !Syllable(0x010C_0000).is_return());
+    }
+
+    #[test]
+    fn call_and_return_read_every_register() {
+        for syllable in [Syllable(0x0008_0000), Syllable(0x000C_0000)] {
+            let reads = syllable.reads(0);
+            assert_eq!(reads.len(), 288);
+            for cluster in 0..4 {
+                assert!((0..64).all(|number| reads.contains(&general(cluster, number))));
+                assert!((0..8).all(|number| reads.contains(&branch(cluster, number))));
+            }
+        }
+        assert_eq!(Syllable(0x0000_0000).reads(0), []);
+        assert_eq!(Syllable(0x0004_0000).reads(0), []);
+    }
+
+    #[test]
+    fn stray_bits_by_the_number_of_opcode_0() {
+        for number in 0..64u32 {
+            let with = |bits: u32| Syllable(number << 18 | bits).stray_bits().is_some();
+            assert_eq!(with(0), number > 3, "{number}");
+            for bit in 0..18 {
+                // Of the four only call has a field there.
+                assert_eq!(with(1 << bit), number != 2, "{number} {bit}");
+            }
+        }
+    }
+
+    #[test]
     fn stray_bits_opcode_by_opcode() {
         // For each opcode the bits that must be zero with bit 11 clear, and those with bit 11 set.
-        for opcode in 0..64u32 {
+        for opcode in 1..64u32 {
             let (clear, set): (u32, u32) = match opcode {
-                // Bit 18 of opcode 0 alone makes a stop.
-                0 => (0xFB_FFFF, 0xFF_FFFF),
                 1..=18 | 24..=39 => (0x7C0, 0),
                 19..=22 => (0xFFF, 0xFFF),
                 40..=49 => (0xE0_07C0, 0xE0_0000),

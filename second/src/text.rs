@@ -225,6 +225,22 @@ mod tests {
     }
 
     #[test]
+    fn a_return_from_the_start_goes_to_place_0_and_no_link_is_printed() {
+        // The link starts at 0: 1 is added to register 1, then the return leads back.
+        assert_eq!(
+            given(&format!("{HEAD}00000000\n00000006\nC1041801\nC00C0000\n")),
+            "00 00000006 00000000\n00 01 00000003\n"
+        );
+        // A call of 2, a stop, an addition and a return.
+        assert_eq!(
+            given(&format!("{HEAD}00000000\n00000010\nC0080002\nC0040000\nC1041801\nC00C0000\n")),
+            "FF 00000003 00000001\n00 01 00000001\n"
+        );
+        // A return with a nop is 8, the return's place.
+        assert_eq!(given(&format!("{HEAD}00000000\n00000010\n40000000 800C0000\n")), "08 00000000 00000001\n");
+    }
+
+    #[test]
     fn branch_registers_are_40_to_47() {
         // cmpeq to branch register 7 of cluster 0.
         assert_eq!(

@@ -41,6 +41,8 @@ int answers(struct call *c, enum entry entry, uint32_t number, uint32_t count, u
 #define IMMEDIATE(value) (UINT32_C(1) << 11 | ((uint32_t)(value) & 0x7FF))
 #define NOP UINT32_C(0)
 #define STOP OPERATION(0, 1, 0, 0)
+#define CALL(target) OPERATION(0, 2, 0, target)
+#define RETURN OPERATION(0, 3, 0, 0)
 #define ADD(t, s1, low) OPERATION(1, t, s1, low)
 #define MPYLL(t, s1, low) OPERATION(24, t, s1, low)
 #define SLCT(t, s1, s2, b) OPERATION(50, t, s1, (uint32_t)(b) << 9 | (uint32_t)(s2))

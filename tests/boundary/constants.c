@@ -55,7 +55,7 @@ static void numbers(void) {
     HOLD(VEX_BAD_LENGTH, refused(VEX_BAD_LENGTH, 0));
     AFTER_NOP(OPENS | STOP);
     HOLD(VEX_NO_END, refused(VEX_NO_END, 1));
-    AFTER_NOP(END | OPENS | OPERATION(0, 2, 0, 0), END | OPENS | STOP);
+    AFTER_NOP(END | OPENS | OPERATION(0, 4, 0, 0), END | OPENS | STOP);
     HOLD(VEX_BAD_BITS, refused(VEX_BAD_BITS, 1));
     AFTER_NOP(END | STOP);
     HOLD(VEX_BAD_CLUSTER, refused(VEX_BAD_CLUSTER, 1));
@@ -77,6 +77,9 @@ static void numbers(void) {
     HOLD(VEX_OUT_OF_BOUNDS, answers(&c, RUN, VEX_OUT_OF_BOUNDS, 1, 1));
     AFTER_NOP(OPENS | STW(0, 0, 0), END | OPENS | STW(0, 0, 0), END | OPENS | STOP);
     HOLD(VEX_STORES_CLASH, answers(&c, RUN, VEX_STORES_CLASH, 1, 1));
+    AFTER_NOP(END | OPENS | RETURN, END | OPENS | STOP);
+    put_word(c.state + VEX_STATE_LINK, 3);
+    HOLD(VEX_BAD_LINK, answers(&c, LOAD, VEX_GOOD, 0, 0) && answers(&c, RUN, VEX_BAD_LINK, 1, 1));
 }
 
 /* One byte of the table: its limit is taken, one more is refused. */
@@ -129,7 +132,7 @@ static void lengths(void) {
     c.memory_len++;
     HOLD(VEX_MEMORY_BYTES_MAX, answers(&c, RUN, VEX_BAD_LENGTH, 0, 1));
 
-    for (int beyond = -1; beyond <= 1; beyond++) {
+    for (int beyond = -4; beyond <= 4; beyond++) {
         stop();
         c.state_len = (size_t)(VEX_STATE_BYTES + beyond);
         HOLD(VEX_STATE_BYTES, beyond ? answers(&c, RUN, VEX_BAD_LENGTH, 0, 2) : taken());
@@ -192,6 +195,21 @@ static void registers(void) {
     }
 }
 
+/* A return goes to the link register's place, and a call sets it; each of its bytes counts, and they are the last of the image. */
+static void link_register(void) {
+    AFTER_NOP(END | OPENS | RETURN, END | OPENS | NOP, END | OPENS | STOP);
+    put_word(c.state + VEX_STATE_LINK, 3);
+    HOLD(VEX_STATE_LINK, answers(&c, RUN, VEX_STOPPED, 2, 3) && word_at(c.state + VEX_STATE_LINK) == 3);
+    for (unsigned byte = 0; byte < 4; byte++) {
+        AFTER_NOP(END | OPENS | RETURN);
+        c.state[VEX_STATE_LINK + byte] = 2;
+        HOLD(VEX_STATE_LINK, answers(&c, RUN, VEX_BAD_LINK, 1, 1));
+    }
+    HOLD(VEX_STATE_BYTES, VEX_STATE_LINK + 4 == VEX_STATE_BYTES);
+    AFTER_NOP(OPENS | NOP, END | CALL(4), END | OPENS | STOP, END | OPENS | RETURN);
+    HOLD(VEX_STATE_LINK, answers(&c, RUN, VEX_STOPPED, 3, 3) && word_at(c.state + VEX_STATE_LINK) == 3);
+}
+
 /* The fields of a register: cluster 1's register 9, which an instruction stores after so many nops. */
 static uint8_t *field_after(unsigned nops) {
     begin(&c);
@@ -235,6 +253,7 @@ int main(void) {
     tables();
     lengths();
     registers();
+    link_register();
     fields();
     return failures != 0;
 }

@@ -65,7 +65,7 @@ static void far_reach(void) {
     }
 }
 
-/* Every operation once, each in an instruction of its own, with delays of 1; then a stop. */
+/* Every operation once, each in an instruction of its own, with delays of 1; then a stop, by way of a call and a return. */
 static void every_operation(void) {
     begin(&c);
     memset(c.table + 21, 1, 5);
@@ -75,7 +75,9 @@ static void every_operation(void) {
         put(&c, END | OPENS | OPERATION(opcode, 1, access ? 0 : 2, low));
     }
     put(&c, END | OPENS | BR(0, 0));
+    put(&c, END | OPENS | CALL(63));
     put(&c, END | OPENS | STOP);
+    put(&c, END | OPENS | RETURN);
     c.n = 1000;
 }
 
@@ -129,18 +131,26 @@ int main(void) {
     measure("every operation", VEX_GOOD, VEX_GOOD, VEX_STOPPED);
     after_product(ADD(2, 1, 3), 0);
     measure("in flight", VEX_GOOD, VEX_TOO_SOON, VEX_IN_FLIGHT);
+    after_product(CALL(0), 0);
+    measure("in flight at a call", VEX_GOOD, VEX_TOO_SOON, VEX_IN_FLIGHT);
     after_product(LDW(2, 0, 1), 0);
     measure("misaligned", VEX_GOOD, VEX_GOOD, VEX_MISALIGNED);
     after_product(LDW(2, 0, 64), 0);
     measure("out of bounds", VEX_GOOD, VEX_GOOD, VEX_OUT_OF_BOUNDS);
     after_product(STW(0, 0, 0), STW(0, 0, 0));
     measure("two stores", VEX_GOOD, VEX_GOOD, VEX_STORES_CLASH);
+    begin(&c);
+    put(&c, END | OPENS | RETURN);
+    put_word(c.state + VEX_STATE_LINK, 1);
+    measure("a bad link", VEX_GOOD, VEX_GOOD, VEX_BAD_LINK);
     c.state[VEX_STATE_GENERAL(0, 0)] = 1;
     measure("a bad state", VEX_GOOD, VEX_GOOD, VEX_BAD_STATE);
     kernel(full_kernel());
     measure("4,096 syllables", VEX_GOOD, VEX_GOOD, VEX_PAUSED);
     kernel(wide_kernel());
     measure("two clusters", VEX_GOOD, VEX_GOOD, VEX_PAUSED);
+    kernel(calls_kernel());
+    measure("calls", VEX_GOOD, VEX_GOOD, VEX_PAUSED);
 
     printf("stack: load %lu bytes, check %lu, run %lu; VEX_STACK_BYTES is %lu\n", (unsigned long)deepest[LOAD], (unsigned long)deepest[CHECK],
            (unsigned long)deepest[RUN], (unsigned long)VEX_STACK_BYTES);

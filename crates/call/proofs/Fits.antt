@@ -22,7 +22,7 @@ pub record Fits (p m s r : List ℕ) : Type 0 where
   pub program : badProgramLength p ≡ false
   pub few : length p ≤ 16384
   pub memory : length m ≤ 65536
-  pub state : length s ≡ 2884
+  pub state : length s ≡ 2888
   pub room : length r ≡ 12
 
 pub fits : (program memory state room : List ℕ) → sizesOf program memory state room ≡ Good → Fits program memory state room
@@ -40,7 +40,11 @@ fits program memory state room e =
     }
 
 pub fit-sizes : {p m s r : List ℕ} → Fits p m s r → sizesOf p m s r ≡ Good
-fit-sizes {p} {m} {s} {r} f = rw (f .program, le-ltb 65536 (length m) (f .memory), eq-eqb (length s) 2884 (f .state), eq-eqb (length r) 12 (f .room))
+fit-sizes {p} {m} {s} {r} f = rw (f .program, le-ltb 65536 (length m) (f .memory), eq-eqb (length s) 2888 (f .state), eq-eqb (length r) 12 (f .room))
+
+-- a program has at most 4,096 syllables
+pub few-syllables : (l : List ℕ) → length l ≤ 16384 → length (words l) ≤ 4096
+few-syllables l h = omega (arith, words-length l)
 
 -- a place of a program is below 2^32
 pub start-small : (l : List ℕ) (i : ℕ) → length l ≤ 16384 → isStart (words l) i ≡ true → i < 2 ^ 32

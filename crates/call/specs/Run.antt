@@ -12,9 +12,9 @@ use Rattle.loader.specs.Answer.{roomWith}
 use Rattle.loader.specs.declared.Refusal.the-variants.{ProgramLength, MemoryLength, StateLength, RoomLength}
 use Rattle.loader.specs.declared.Loaded.{Loaded}
 use Rattle.loader.specs.declared.Loaded.the-variants.{Good, Refused as NotLoaded}
-use Rattle.memory.specs.Memory.{Store, store}
+use Rattle.machine.specs.Link.{Memory, Change, memoryOf, change}
 use Rattle.machine.specs.Instruction.{instructionOf}
-use Rattle.machine.specs.Image.{placeIn, registersIn, imageOf}
+use Rattle.machine.specs.Image.{placeIn, registersIn, linkIn, imageOf}
 use Rattle.machine.specs.Valid.{badState}
 use Rattle.call.specs.Reply.{replyAnswer}
 use Rattle.call.specs.declared.Reply.{Reply}
@@ -37,18 +37,18 @@ pub record Outcome : Type 0 where
   pub room : List ℕ
 
 -- the machine's state, as the image and the memory hold it
-abbrev pub stateOf : Call → Situation (List ℕ) Store
+abbrev pub stateOf : Call → Situation Memory Change
 stateOf c =
     record {
       place = placeIn (c .state);
       registers = registersIn (c .state);
-      memory = c .memory;
+      memory = memoryOf (c .memory) (linkIn (c .state));
       landing = c .landing;
       orders = inOrder;
     }
 
-abbrev pub ranOf : Call → Ran (Situation (List ℕ) Store)
-ranOf c = run (step store (instructionOf (tableOf (c .table) .delays) (words (c .program)))) (c .n) (stateOf c)
+abbrev pub ranOf : Call → Ran (Situation Memory Change)
+ranOf c = run (step change (instructionOf (tableOf (c .table) .delays) (words (c .program)))) (c .n) (stateOf c)
 
 -- what a call comes to, before the answer is given
 pub record Done : Type 0 where
@@ -60,20 +60,20 @@ pub record Done : Type 0 where
 abbrev pub refused : Reply → Call → Done
 refused y c = record { reply = y; state = c .state; memory = c .memory }
 
-abbrev pub ended : Ran (Situation (List ℕ) Store) → Done
+abbrev pub ended : Ran (Situation Memory Change) → Done
 ended r =
     let s = r .state in
     record {
       reply = Ended (r .ending) (record { 0 = r .count }) (record { 0 = s .place });
-      state = imageOf (s .place) (s .registers);
-      memory = s .memory;
+      state = imageOf (s .place) (s .registers) (s .memory .link);
+      memory = s .memory .bytes;
     }
 
 abbrev pub doneBy : Loaded → Call → Done
 doneBy (NotLoaded r) c = refused (Refused r) c
 doneBy Good c = pick (badState (words (c .program)) (c .state)) (refused BadState c) (ended (ranOf c))
 
--- 2: "program size; memory size; state image not 2,884 bytes; answer room not 12 bytes (in this order)"
+-- 2: "program size; memory size; state image not 2,884 bytes; answer room not 12 bytes (in this order)"; by order 1 2,888
 abbrev pub sizesOf : List ℕ → List ℕ → List ℕ → List ℕ → Loaded
 sizesOf program memory state room =
     refusedIf (badProgramLength program) ProgramLength

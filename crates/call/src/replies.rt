@@ -30,6 +30,7 @@ fn fault_number(f: Fault) -> u32
         Fault::Misaligned => 12,
         Fault::OutOfBounds => 13,
         Fault::StoresClash => 14,
+        Fault::BadLink => 17,
     }
 }
 

@@ -12,10 +12,10 @@ use Rattle.vliw.specs.declared.Ending.the-variants.{Paused}
 use Rattle.vliw.specs.Run.{numberOf, Step, Ran, run}
 use Rattle.vliw.specs.Machine.{Instruction, Situation, inOrder, step}
 use Rattle.vliw.proofs.Stops.{again}
-use Rattle.isa.specs.Program.{following, operationsAt}
+use Rattle.isa.specs.Program.{isStart, following, operationsAt}
 use Rattle.loader.specs.Answer.{answer, roomWith}
 use Rattle.loader.specs.declared.Answer.{Answer}
-use Rattle.memory.specs.Memory.{Store, store}
+use Rattle.machine.specs.Link.{Memory, Change, change}
 use Rattle.machine.specs.Image.{placeIn}
 use Rattle.machine.specs.Valid.{badState}
 use Rattle.call.specs.Run.{Call, Outcome, stateOf, ranOf, runOutcome}
@@ -26,7 +26,7 @@ use Rattle.demands.specs.Exact.{RunBreaks, tooSoon, First}
 use Rattle.demands.specs.Demand3.{instructions}
 use Rattle.demands.specs.Demand1.{left, Faulted, Rooms, Demand1}
 use Rattle.demands.proofs.Exact.{numbers}
-use Rattle.demands.proofs.Endings.{ending-number, last, run-ended, unmoved, heedless, lending}
+use Rattle.demands.proofs.Endings.{ending-number, fault-range, last, run-ended, unmoved, heedless, lending}
 use Rattle.demands.proofs.Taken.{leftBy, Taken, Answered, not-run, did-run, answered, taken-runs, taken-fits}
 use Rattle.demands.proofs.Held.{left-held, next-taken, next-state}
 
@@ -55,7 +55,7 @@ nine c (tooSoon p q h) = h
 
 -- of a call that runs
 ran-known : (c : Call) → let k = numberOf (ranOf c .ending) in k ≤ 10 → k ≡ 0
-ran-known c h = ⊎-elim (λ e. e) (λ m. ⊎-elim (λ e. absurd (omega arith)) (λ f. absurd (omega (arith, f .0))) m) (ending-number (ranOf c .ending))
+ran-known c h = ⊎-elim (λ e. e) (λ m. ⊎-elim (λ e. absurd (omega arith)) (λ f. absurd (omega (arith, fault-range f .0))) m) (ending-number (ranOf c .ending))
 
 kind : {c : Call} {a : Answer} {o : Outcome} → Answered c a o → Pauses o ⊎ Stops o ⊎ Refuses o ⊎ Faults o
 kind (not-run f) = inr (inr (inl (numbers (f .breaks))))
@@ -79,11 +79,11 @@ module _ {c : Call} where
 -- ---- a call that runs
 
 module _ (c : Call) where
-  abbrev program : ℕ → Instruction (List ℕ) Store
+  abbrev program : ℕ → Instruction Memory Change
   program = instructions (c .table) (c .program)
 
-  abbrev machine : Situation (List ℕ) Store → Step (Situation (List ℕ) Store)
-  machine = step store program
+  abbrev machine : Situation Memory Change → Step (Situation Memory Change)
+  machine = step change program
 
   module _ (t : Taken c) (l : Lent c) where
     abbrev o : Outcome
@@ -97,8 +97,8 @@ module _ (c : Call) where
     run-faulted : Faults o → Faulted c o
     run-faulted f =
         let r = ranOf c in
-        let e = last machine (c .n) (stateOf c) (λ z. omega (arith, f .0, ap numberOf z)) in
-        let same : r .state ≡ e .before = unmoved store program (r .ending) (e .before) (r .state) (e .ended) (λ z. omega (arith, f .1, ap numberOf z)) in
+        let e = last machine (c .n) (stateOf c) (λ z. omega (arith, fault-range f .0, ap numberOf z)) in
+        let same : r .state ≡ e .before = unmoved change program (r .ending) (e .before) (r .state) (e .ended) (λ z. omega (arith, fault-range f .1, ap numberOf z)) in
         let paused : ranOf (withLimit (r .count) c) ≡ record { ending = Paused; count = r .count; state = r .state } = rw same (e .paused) in
         record {
           k = r .count;
@@ -106,7 +106,7 @@ module _ (c : Call) where
           faulted = at-place (numberOf (r .ending)) (r .count) (c .room);
           paused =
               taken-runs (withLimit (r .count) c) (record { good = t .good; valid = t .valid })
-              ∙ ap (λ (x : Ran (Situation (List ℕ) Store)). leftBy x (c .room)) paused ∙ at-place 0 (r .count) (c .room);
+              ∙ ap (λ (x : Ran (Situation Memory Change)). leftBy x (c .room)) paused ∙ at-place 0 (r .count) (c .room);
         }
 
     run-again : 11 ≤ o .result → (landing : List ℕ) (n : ℕ) → 1 ≤ n → runOutcome (second c o landing n) ≡ left o (o .result) 0 (o .room)
@@ -116,12 +116,12 @@ module _ (c : Call) where
         let p = words (c .program) in
         let d = second c o landing (suc n) in
         let e = last machine (c .n) (stateOf c) (λ z. omega (arith, h, ap numberOf z)) in
-        let here = again store program (λ i f g m. halts (following p i) (operationsAt p i) f m g) (r .ending) (e .before) (r .state) (e .ended) in
+        let here = again change program (λ i f g m. halts (isStart p) (following p i) (operationsAt p i) f m g) (r .ending) (e .before) (r .state) (e .ended) in
         let u = lending landing inOrder (r .state) in
-        let there = run-ended machine n (r .ending) u u (heedless store program (r .ending) (r .state) landing inOrder here) in
+        let there = run-ended machine n (r .ending) u u (heedless change program (r .ending) (r .state) landing inOrder here) in
         taken-runs d (next-taken c t l landing (suc n))
-        ∙ ap (λ (s : Situation (List ℕ) Store). leftBy (run machine (suc n) s) (o .room)) (next-state c t l landing (suc n))
-        ∙ ap (λ (x : Ran (Situation (List ℕ) Store)). leftBy x (o .room)) there
+        ∙ ap (λ (s : Situation Memory Change). leftBy (run machine (suc n) s) (o .room)) (next-state c t l landing (suc n))
+        ∙ ap (λ (x : Ran (Situation Memory Change)). leftBy x (o .room)) there
         ∙ at-place (numberOf (r .ending)) 0 (o .room)
 
     run-none : c .n ≡ 0 → o ≡ outcome (answer 0 0 (placeIn (c .state))) (c .state) (c .memory) (c .room)
@@ -130,7 +130,7 @@ module _ (c : Call) where
         ∙ ap (λ (i : List ℕ). outcome (answer 0 0 (placeIn (c .state))) i (c .memory) (c .room)) (image-read (c .state) (taken-fits t .state) (l .state))
 
   faulted : {a : Answer} {o : Outcome} → Answered c a o → Lent c → Faults o → Faulted c o
-  faulted (not-run r) l f = absurd (omega (arith, f .0, numbers (r .breaks) .1))
+  faulted (not-run r) l f = absurd (omega (arith, fault-range f .0, numbers (r .breaks) .1))
   faulted (did-run t) l f = run-faulted t l f
 
   repeats : {a : Answer} {o : Outcome} → Answered c a o → Lent c → 11 ≤ o .result → (landing : List ℕ) (n : ℕ) → 1 ≤ n

@@ -21,7 +21,7 @@ use Rattle.demands.specs.Calls.{Pauses, Stops, Refuses, Faults}
 use Rattle.demands.specs.Exact.{nothing, LoadBreaks, CheckBreaks, RunBreaks, tooSoon, Exact}
 use Rattle.demands.specs.Demand2.{Demand2}
 use Rattle.demands.proofs.Exact.{exact-none, exact-first, numbers, ten-left, none, first, LoadSays, load-says}
-use Rattle.demands.proofs.Endings.{ending-number}
+use Rattle.demands.proofs.Endings.{ending-number, fault-range}
 use Rattle.demands.proofs.Taken.{Answered, not-run, did-run, answered, taken-unbroken}
 
 module _ (table program room : List ℕ) where
@@ -55,7 +55,7 @@ module _ (table program room : List ℕ) where
 -- ---- run
 
 alone : (o : Outcome) → Pauses o ⊎ Stops o ⊎ Faults o → ¬ Refuses o
-alone o p (low, high) = ⊎-elim (λ e. omega (arith, e)) (⊎-elim (λ e. omega (arith, e)) (λ e. omega (arith, e .0))) p
+alone o p (low, high) = ⊎-elim (λ e. omega (arith, e)) (⊎-elim (λ e. omega (arith, e)) (λ e. omega (arith, fault-range e .0))) p
 
 run : (c : Call) {a : Answer} {o : Outcome} → Answered c a o → Exact (RunBreaks c) (Pauses o ⊎ Stops o ⊎ Faults o) a
 run c {o = o} (not-run f) = exact-first (λ p. alone o p (numbers (f .breaks))) f

@@ -31,7 +31,7 @@ use Rattle.schedule.specs.Rule.{Says}
 use Rattle.schedule.specs.Answer.{verdictAnswer, AnswersBy}
 use Rattle.schedule.specs.declared.Verdict.{Verdict}
 use Rattle.schedule.specs.declared.Verdict.the-variants as verdict
-use Rattle.memory.specs.Memory.{Store, store}
+use Rattle.machine.specs.Link.{Memory, Change, change}
 use Rattle.machine.specs.Image.{placeIn, registersIn}
 use Rattle.machine.specs.Valid.{badState}
 use Rattle.call.specs.Run.{Call, Outcome, stateOf, ranOf, doneBy, doneOf, runOutcome}
@@ -80,7 +80,7 @@ cleared table program p =
 low : (l : Registers) (r : ℕ) → at l r ≡ still → at l r .landing ≤ at l r .busy
 low l r e = rw e zero-le
 
-quiet : (p image memory landing : List ℕ) (orders : Orders Store) → badState p image ≡ false → NothingInFlight image → AnyOrder orders
+quiet : (p image memory landing : List ℕ) (orders : Orders Change) → badState p image ≡ false → NothingInFlight image → AnyOrder orders
     → Quiet (isStart p) (start image memory landing orders)
 quiet p image memory landing orders h q o =
     let (place, whole) = begins p image h in
@@ -98,20 +98,20 @@ quiet p image memory landing orders h q o =
     }
 
 unseen : (table program : List ℕ) → Passes table program → (image : List ℕ) → badState (words program) image ≡ false → NothingInFlight image
-    → (memory landing : List ℕ) (orders : Orders Store) → AnyOrder orders → (n : ℕ)
-    → Unseen store (instructions table program) (start image memory landing orders) n
+    → (memory landing : List ℕ) (orders : Orders Change) → AnyOrder orders → (n : ℕ)
+    → Unseen change (instructions table program) (start image memory landing orders) n
 unseen table program p image h q memory landing orders o n =
     let k = cleared table program p in
-    machine-demand-3 (List ℕ) Store store (instructions table program) (isStart (words program)) (loaded-machine (k .passes) (k .within)) (k .clean)
+    machine-demand-3 Memory Change change (instructions table program) (isStart (words program)) (loaded-machine (k .passes) (k .within)) (k .clean)
     (start image memory landing orders) (quiet (words program) image memory landing orders h q o) n
 
 -- ---- a call
 
-in-order : AnyOrder {Store = Store} inOrder
+in-order : AnyOrder {Store = Change} inOrder
 in-order = record { results = λ k ws. Permᴰ·refl ws; stores = λ k ss. Permᴰ·refl ss }
 
 module _ (c : Call) (p : Passes (c .table) (c .program)) (q : NothingInFlight (c .state)) where
-  call-unseen : Taken c → Unseen store (instructions (c .table) (c .program)) (stateOf c) (c .n)
+  call-unseen : Taken c → Unseen change (instructions (c .table) (c .program)) (stateOf c) (c .n)
   call-unseen t = unseen (c .table) (c .program) p (c .state) (t .valid) q (c .memory) (c .landing) inOrder in-order (c .n)
 
   unfaulted : {a : Answer} {o : Outcome} → Answered c a o → o .result ≢ 11
@@ -124,11 +124,12 @@ module _ (c : Call) (p : Passes (c .table) (c .program)) (q : NothingInFlight (c
         let e : viewRan settled (ranOf c) ≡ plainRan c = call-unseen t .same in
         let h = left-held c t l in
         record {
-          number = ap (λ (r : Ran (Plain (List ℕ))). numberOf (r .ending)) e;
-          room = ap (λ (r : Ran (Plain (List ℕ))). roomWith (answer (numberOf (r .ending)) (r .count) (r .state .place)) (c .room)) e;
-          memory = ap (λ (r : Ran (Plain (List ℕ))). r .state .memory) e;
-          place = h .place ∙ ap (λ (r : Ran (Plain (List ℕ))). r .state .place) e;
-          registers = ap (map landed) (h .registers) ∙ ap (λ (r : Ran (Plain (List ℕ))). r .state .registers) e;
+          number = ap (λ (r : Ran (Plain Memory)). numberOf (r .ending)) e;
+          room = ap (λ (r : Ran (Plain Memory)). roomWith (answer (numberOf (r .ending)) (r .count) (r .state .place)) (c .room)) e;
+          memory = ap (λ (r : Ran (Plain Memory)). r .state .memory .bytes) e;
+          place = h .place ∙ ap (λ (r : Ran (Plain Memory)). r .state .place) e;
+          registers = ap (map landed) (h .registers) ∙ ap (λ (r : Ran (Plain Memory)). r .state .registers) e;
+          link = h .link ∙ ap (λ (r : Ran (Plain Memory)). r .state .memory .link) e;
         }
 
     plain : {a : Answer} {o : Outcome} → Answered c a o → ¬ Refuses o → Plainly c o
@@ -144,6 +145,7 @@ both c landing x y =
       memory = x .memory ∙ sym (y .memory);
       place = x .place ∙ sym (y .place);
       registers = x .registers ∙ sym (y .registers);
+      link = x .link ∙ sym (y .link);
     }
 
 module _ (c : Call) (l : Lent c) (p : Passes (c .table) (c .program)) (q : NothingInFlight (c .state)) (landing : List ℕ) where
@@ -161,10 +163,10 @@ module _ (c : Call) (l : Lent c) (p : Passes (c .table) (c .program)) (q : Nothi
   alike = by (found c) refl
     where
       by : (x : Loaded) → found c ≡ x → Alike (given (doneBy x c) (c .room)) (given (doneBy x other) (c .room))
-      by (Refused r) e = record { number = refl; room = refl; memory = refl; place = refl; registers = refl }
+      by (Refused r) e = record { number = refl; room = refl; memory = refl; place = refl; registers = refl; link = refl }
       by Good e =
           ⊎-elim
-          (λ b. rw b (record { number = refl; room = refl; memory = refl; place = refl; registers = refl }))
+          (λ b. rw b (record { number = refl; room = refl; memory = refl; place = refl; registers = refl; link = refl }))
           (λ b. rw b (both-run (record { good = e; valid = b })))
           (by-test (badState (words (c .program)) (c .state)))
 
@@ -172,6 +174,7 @@ pub demand-3 : Demand3
 demand-3 = record {
   unseen = unseen;
   alike = λ c l p q landing. alike c l p q landing;
+  linked = λ a b apart same. apart (same .link);
   plain = λ c l p q. plain c p q l (answered c);
   unfaulted = λ c p q. unfaulted c p q (answered c);
 }

@@ -1,6 +1,6 @@
 -- Laws of how a run ends: where it stood before its last step, and that this step ends every run from there.
 use mathlib.Core.Path.{_≡_, refl, ap, subst}
-use mathlib.Core.Logic.{_≢_, _⊎_, inl, inr}
+use mathlib.Core.Logic.{_≢_, _⊎_, inl, inr, ⊎-elim}
 use mathlib.Core.Bool.{Bool, true, false}
 use mathlib.Core.List.{List, map}
 use Prim.Native.Nat.{ℕ, zero, suc, _≤_, _<_}
@@ -8,20 +8,21 @@ use native.Mathlib.Omega.{arith}
 use Rattle.word.specs.Choice.{pick}
 use Rattle.vliw.specs.declared.Ending.{Ending}
 use Rattle.vliw.specs.declared.Ending.the-variants.{Paused, Stopped, Faulted}
-use Rattle.vliw.specs.declared.Fault.the-variants.{InFlight, Misaligned, OutOfBounds, StoresClash}
+use Rattle.vliw.specs.declared.Fault.the-variants.{InFlight, Misaligned, OutOfBounds, StoresClash, BadLink}
 use Rattle.vliw.specs.Run.{numberOf, Step, ends, next, Ran, counted, onward, run}
 use Rattle.vliw.specs.Cell.{rested}
 use Rattle.vliw.specs.Machine.{Out, fault, stop, go, Instruction, uses, anyBusy, Orders, Situation, finish, step}
 use Rattle.vliw.proofs.Flight.{acted}
 
 -- the kinds of ending, by their numbers
-pub ending-number : (e : Ending) → let k = numberOf e in (k ≡ 0) ⊎ (k ≡ 255) ⊎ ((11 ≤ k) × (k ≤ 14))
+pub ending-number : (e : Ending) → let k = numberOf e in (k ≡ 0) ⊎ (k ≡ 255) ⊎ (((11 ≤ k) × (k ≤ 14)) ⊎ (k ≡ 17))
 ending-number Paused = inl refl
 ending-number Stopped = inr (inl refl)
-ending-number (Faulted InFlight) = inr (inr (omega arith, omega arith))
-ending-number (Faulted Misaligned) = inr (inr (omega arith, omega arith))
-ending-number (Faulted OutOfBounds) = inr (inr (omega arith, omega arith))
-ending-number (Faulted StoresClash) = inr (inr (omega arith, omega arith))
+ending-number (Faulted InFlight) = inr (inr (inl (omega arith, omega arith)))
+ending-number (Faulted Misaligned) = inr (inr (inl (omega arith, omega arith)))
+ending-number (Faulted OutOfBounds) = inr (inr (inl (omega arith, omega arith)))
+ending-number (Faulted StoresClash) = inr (inr (inl (omega arith, omega arith)))
+ending-number (Faulted BadLink) = inr (inr (inr refl))
 
 -- 11 is the number of one ending only
 pub in-flight : (e : Ending) → numberOf e ≡ 11 → e ≡ Faulted InFlight
@@ -31,6 +32,11 @@ in-flight (Faulted InFlight) h = refl
 in-flight (Faulted Misaligned) h = absurd (omega (arith, h))
 in-flight (Faulted OutOfBounds) h = absurd (omega (arith, h))
 in-flight (Faulted StoresClash) h = absurd (omega (arith, h))
+in-flight (Faulted BadLink) h = absurd (omega (arith, h))
+
+-- what every fault's number has
+pub fault-range : {k : ℕ} → ((11 ≤ k) × (k ≤ 14)) ⊎ (k ≡ 17) → (11 ≤ k) × (k ≤ 17)
+fault-range {k} f = ⊎-elim (λ (p, q). (p, omega arith)) (λ (e : k ≡ 17). (omega arith, omega arith)) f
 
 module _ {S : Type 0} (f : S → Step S) where
   -- the last step of a run of at most n steps that does not pause

@@ -3,6 +3,7 @@ use mathlib.Core.Path.{_≡_, refl}
 use mathlib.Core.Bool.{true, false, not}
 use mathlib.Core.List.{List}
 use Prim.Native.Nat.{ℕ, _≤_}
+use native.Mathlib.Omega.{arith}
 use lib.ListN.{length}
 use borrow.Author.Tests.{eq-eqb, not-false}
 use Rattle.word.specs.Bytes.{words}
@@ -12,12 +13,12 @@ use Rattle.isa.specs.Program.{isStart}
 use Rattle.tables.specs.Table.{tableOf}
 use Rattle.loader.specs.Answer.{roomWith}
 use Rattle.loader.specs.declared.Answer.{Answer}
-use Rattle.memory.specs.Memory.{Store}
-use Rattle.machine.specs.Image.{placeIn, registersIn, imageOf}
+use Rattle.machine.specs.Link.{Memory, Change, memoryOf}
+use Rattle.machine.specs.Image.{placeIn, registersIn, linkIn, imageOf}
 use Rattle.machine.specs.Valid.{badStateWith, badState}
 use Rattle.call.specs.Run.{Call, stateOf, ranOf}
-use Rattle.call.proofs.Fits.{start-small}
-use Rattle.machine.proofs.Images.{registers-length, registers-small, read-image, imageOf-length}
+use Rattle.call.proofs.Fits.{start-small, few-syllables}
+use Rattle.machine.proofs.Images.{registers-length, registers-small, link-small, read-image, imageOf-length}
 use Rattle.call.proofs.Stays.{Fine, stays}
 use Rattle.machine.proofs.Validity.{registers-valid, valid-registers}
 use Rattle.demands.specs.Calls.{Lent, second}
@@ -40,24 +41,30 @@ start-fine c t l =
       small = registers-small (c .state) (l .state);
       valid = registers-valid (registersIn (c .state)) (or-false (not (isStart (words (c .program)) (placeIn (c .state)))) _ whole .1);
       memory = l .memory;
+      link = link-small (c .state) (l .state);
     }
 
--- a state that the image holds
-pub record Held (p : List ℕ) (s : Situation (List ℕ) Store) : Type 0 where
-  pub place : placeIn (imageOf (s .place) (s .registers)) ≡ s .place
-  pub registers : registersIn (imageOf (s .place) (s .registers)) ≡ s .registers
-  pub size : length (imageOf (s .place) (s .registers)) ≡ 2884
-  pub valid : badState p (imageOf (s .place) (s .registers)) ≡ false
+abbrev image : Situation Memory Change → List ℕ
+image s = imageOf (s .place) (s .registers) (s .memory .link)
 
-held : (program : List ℕ) (s : Situation (List ℕ) Store) → length program ≤ 16384 → Fine (words program) s → Held (words program) s
+-- a state that the image holds
+pub record Held (p : List ℕ) (s : Situation Memory Change) : Type 0 where
+  pub place : placeIn (image s) ≡ s .place
+  pub registers : registersIn (image s) ≡ s .registers
+  pub link : linkIn (image s) ≡ s .memory .link
+  pub size : length (image s) ≡ 2888
+  pub valid : badState p (image s) ≡ false
+
+held : (program : List ℕ) (s : Situation Memory Change) → length program ≤ 16384 → Fine (words program) s → Held (words program) s
 unfolding badState
 held program s b f =
-    let (place, registers) = read-image (s .place) (s .registers) (start-small program (s .place) b (f .start)) (f .long) (f .small) in
+    let h = read-image (s .place) (s .registers) (s .memory .link) (start-small program (s .place) b (f .start)) (f .link) (f .long) (f .small) in
     record {
-      place = place;
-      registers = registers;
-      size = imageOf-length (s .place) (s .registers) (f .long);
-      valid = rw (place, registers, f .start, valid-registers (s .registers) (f .valid));
+      place = h .place;
+      registers = h .registers;
+      link = h .link;
+      size = imageOf-length (s .place) (s .registers) (s .memory .link) (f .long);
+      valid = rw (h .place, h .registers, f .start, valid-registers (s .registers) (f .valid));
     }
 
 room-length : (a : Answer) (room : List ℕ) → length room ≡ 12 → length (roomWith a room) ≡ 12
@@ -65,15 +72,15 @@ unfolding roomWith
 room-length a room e = rw (eq-eqb (length room) 12 e)
 
 module _ (c : Call) (t : Taken c) (l : Lent c) where
-  abbrev left : Situation (List ℕ) Store
+  abbrev left : Situation Memory Change
   left = ranOf c .state
 
   pub left-held : Held (words (c .program)) left
   left-held =
       held (c .program) left (taken-fits t .few)
-      (stays (taken-passed t) (taken-bounds t) (c .n) (stateOf c) refl (start-fine c t l))
+      (stays (taken-passed t) (taken-bounds t) (few-syllables (c .program) (taken-fits t .few)) (c .n) (stateOf c) refl (start-fine c t l))
 
-  pub left-memory : length (left .memory) ≡ length (c .memory)
+  pub left-memory : length (left .memory .bytes) ≡ length (c .memory)
   left-memory = memory-length (tableOf (c .table) .delays) (words (c .program)) (c .n) (stateOf c)
 
   -- a second call
@@ -100,7 +107,7 @@ module _ (c : Call) (t : Taken c) (l : Lent c) where
         record {
           place = left-held .place k;
           registers = left-held .registers k;
-          memory = left .memory;
+          memory = memoryOf (left .memory .bytes) (left-held .link k);
           landing = landing;
           orders = inOrder;
         }

@@ -14,27 +14,28 @@ use Rattle.vliw.specs.Machine.{Out, fault, stop, go, uses, anyBusy, Situation, 
 use Rattle.vliw.proofs.Runs.{Keeps, run-ends}
 use Rattle.vliw.proofs.Flight.{acted}
 use Rattle.isa.specs.declared.Delays.{Delays}
-use Rattle.memory.specs.Memory.{Store, store}
+use Rattle.machine.specs.Link.{Memory, Change, storing, linking, change}
 use Rattle.machine.specs.Instruction.{instructionOf}
 
-stores-length : (ss : List Store) (m : List ℕ) → length (stores store ss m) ≡ length m
+stores-length : (cs : List Change) (m : Memory) → length (stores change cs m .bytes) ≡ length (m .bytes)
 stores-length [] m = refl
-stores-length (s ∷ ss) m = stores-length ss (store s m) ∙ length-sets m (s .at) (bytes (s .size) (s .value))
+stores-length (storing s ∷ cs) m = stores-length cs (change (storing s) m) ∙ length-sets (m .bytes) (s .at) (bytes (s .size) (s .value))
+stores-length (linking i ∷ cs) m = stores-length cs (change (linking i) m)
 
 module _ (d : Delays) (p : List ℕ) where
-  abbrev Long : ℕ → Situation (List ℕ) Store → Type 0
-  Long l s = length (s .memory) ≡ l
+  abbrev Long : ℕ → Situation Memory Change → Type 0
+  Long l s = length (s .memory .bytes) ≡ l
 
-  keeps : (l : ℕ) (s : Situation (List ℕ) Store) → Long l s → Keeps (Long l) (λ e. Long l) (step store (instructionOf d p) s)
+  keeps : (l : ℕ) (s : Situation Memory Change) → Long l s → Keeps (Long l) (λ e. Long l) (step change (instructionOf d p) s)
   keeps l s h = by (anyBusy (uses (instructionOf d p (s .place))) (s .registers)) (acted (instructionOf d p) s)
     where
-      by : (x : Bool) (o : Out Store) → Keeps (Long l) (λ e. Long l) (pick x (ends (Faulted InFlight) s) (finish store (instructionOf d p (s .place)) s o))
+      by : (x : Bool) (o : Out Change) → Keeps (Long l) (λ e. Long l) (pick x (ends (Faulted InFlight) s) (finish change (instructionOf d p (s .place)) s o))
       by true o = h
       by false (fault f) = h
       by false stop = h
       by false (go vs ss j) = stores-length (s .orders .stores 0 ss) (s .memory) ∙ h
 
-  pub memory-length : (n : ℕ) (s : Situation (List ℕ) Store) → length (run (step store (instructionOf d p)) n s .state .memory) ≡ length (s .memory)
+  pub memory-length : (n : ℕ) (s : Situation Memory Change) → length (run (step change (instructionOf d p)) n s .state .memory .bytes) ≡ length (s .memory .bytes)
   memory-length n s =
-      let l = length (s .memory) in
-      run-ends (Long l) (λ e. Long l) (step store (instructionOf d p)) (keeps l) (λ t h. h) n s refl
+      let l = length (s .memory .bytes) in
+      run-ends (Long l) (λ e. Long l) (step change (instructionOf d p)) (keeps l) (λ t h. h) n s refl

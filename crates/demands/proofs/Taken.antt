@@ -20,7 +20,7 @@ use Rattle.loader.specs.declared.Loaded.{Loaded}
 use Rattle.loader.specs.declared.Loaded.the-variants.{Good, Refused}
 use Rattle.loader.specs.Passed.{Passed}
 use Rattle.loader.proofs.Refusals.{passed, Accepted, accepted}
-use Rattle.memory.specs.Memory.{Store}
+use Rattle.machine.specs.Link.{Memory, Change}
 use Rattle.machine.specs.Image.{imageOf}
 use Rattle.machine.specs.Valid.{badState}
 use Rattle.call.specs.Reply.{replyAnswer}
@@ -38,13 +38,13 @@ pub record Taken (c : Call) : Type 0 where
   pub valid : badState (words (c .program)) (c .state) ≡ false
 
 -- what a run leaves
-abbrev pub leftBy : Ran (Situation (List ℕ) Store) → List ℕ → Outcome
+abbrev pub leftBy : Ran (Situation Memory Change) → List ℕ → Outcome
 leftBy r room =
     let s = r .state in
-    outcome (answer (numberOf (r .ending)) (r .count) (s .place)) (imageOf (s .place) (s .registers)) (s .memory) room
+    outcome (answer (numberOf (r .ending)) (r .count) (s .place)) (imageOf (s .place) (s .registers) (s .memory .link)) (s .memory .bytes) room
 
 -- what is answered for it
-abbrev pub ranAnswer : Ran (Situation (List ℕ) Store) → Answer
+abbrev pub ranAnswer : Ran (Situation Memory Change) → Answer
 ranAnswer r = answer (numberOf (r .ending)) (r .count) (r .state .place)
 
 -- how a call is answered

@@ -1,5 +1,6 @@
 -- Calls of run that differ in one thing, what a host lends them, and what they leave.
 use mathlib.Core.Path.{_≡_}
+use mathlib.Core.Logic.{_⊎_}
 use mathlib.Core.List.{List}
 use Prim.Native.Nat.{ℕ, _≤_}
 use Rattle.word.specs.Bytes.{AreBytes}
@@ -60,7 +61,7 @@ abbrev pub outcome : Answer → List ℕ → List ℕ → List ℕ → Outcome
 outcome a state memory room =
     record { result = a .number; state = state; memory = memory; room = roomWith a room }
 
--- the kinds of answer: 0; 255; 1 to 10; 11 to 14
+-- the kinds of answer: 0; 255; 1 to 10; 11 to 14 and 17
 abbrev pub Pauses : Outcome → Type 0
 Pauses o = o .result ≡ 0
 
@@ -71,4 +72,4 @@ abbrev pub Refuses : Outcome → Type 0
 Refuses o = (1 ≤ o .result) × (o .result ≤ 10)
 
 abbrev pub Faults : Outcome → Type 0
-Faults o = (11 ≤ o .result) × (o .result ≤ 14)
+Faults o = ((11 ≤ o .result) × (o .result ≤ 14)) ⊎ (o .result ≡ 17)

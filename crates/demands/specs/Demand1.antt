@@ -19,7 +19,8 @@ use Rattle.demands.specs.Exact.{RunBreaks, First}
 abbrev pub left : Outcome → ℕ → ℕ → List ℕ → Outcome
 left o number count room = outcome (answer number count (placeIn (o .state))) (o .state) (o .memory) room
 
--- "For 11 to 14 the state stands before the faulting instruction, with all earlier ones done": k of them, and a run of just these pauses there
+-- "For 11 to 14 the state stands before the faulting instruction, with all earlier ones done", and for 17: k of them, and a run of just these
+-- pauses there
 pub record Faulted (c : Call) (o : Outcome) : Type 0 where
   pub k : ℕ
   pub fewer : k < c .n

@@ -20,7 +20,7 @@ use Rattle.isa.specs.declared.Delays.{Delays}
 use Rattle.isa.specs.declared.Place.{Place}
 use Rattle.isa.specs.declared.Way.the-variants.{Along}
 use Rattle.isa.specs.declared.Turn.{Turn}
-use Rattle.isa.specs.declared.Turn.the-variants.{Onward, Stops, To}
+use Rattle.isa.specs.declared.Turn.the-variants.{Onward, Stops, To, Calls, Back as BackTo}
 use Rattle.memory.specs.Memory.{_orElse_, Store}
 use Rattle.memory.specs.Held.{storesIn, Stores}
 use Rattle.memory.specs.declared.FirstFault.the-variants.{None}
@@ -28,9 +28,9 @@ use Rattle.machine.specs.Instruction.{Fired, fire, valueIn, resultValues, store
 use Rattle.ticks.specs.Ticks.{destsIn, valuesIn, Results}
 use Rattle.gather.specs.declared.Seen.{Seen}
 use Rattle.gather.specs.declared.Course.{Course}
-use Rattle.gather.specs.declared.Course.the-variants.{Open, Stop, Set}
+use Rattle.gather.specs.declared.Course.the-variants.{Open, Stop, Set, Call, Back}
 
--- an operation reads or writes a register in flight
+-- an operation names a register in flight
 abbrev pub opBusy : Registers → Op → Bool
 opBusy l o =
     ltb 0 (at l (o .s1) .busy) || ltb 0 (at l (o .s2) .busy) || ltb 0 (at l (o .b) .busy) || ltb 0 (at l (o .stored) .busy)
@@ -46,6 +46,8 @@ abbrev pub turnIn : Course → Place → Turn
 turnIn Open place = Onward
 turnIn Stop place = Stops
 turnIn Set place = To place
+turnIn Call place = Calls place
+turnIn Back place = BackTo
 
 -- ---- what the pass goes by
 
@@ -59,7 +61,7 @@ pub record Own (xs : List Spot) : Type 0 where
 abbrev pub Timely : Delays → Type 0
 Timely d = (o r : ℕ) → (0 < delayOf d o r) × (delayOf d o r ≤ 8)
 
--- the opcodes of nop, stop, goto, br and brf
+-- the opcodes of nop, stop, call, return, goto, br and brf
 abbrev pub isTurn : ℕ → Bool
 isTurn opcode = eqb opcode 0 || ltb 60 opcode
 

@@ -36,22 +36,24 @@ ghost use Rattle.machine.specs.Instruction.{addressOf, valueIn, Next, nextBy};
 ghost use Rattle.ticks.specs.Ticks.{Results};
 ghost use Rattle.gather.specs.Gather.{Own, Timely, Formed, isTurn, turnIn, namedLate, opLate, fireAt, destIn, valuesBy, Noted, Scratch, scratch, Holds, Acts, Does, Gathered};
 
-// Where the operations so far go on: that is open, they stop, or it is set to a place. Apart from the place, since copying isa's Turn once
-// for each operation makes the loop twice as slow (docs/DECISIONS.md).
+// Where the operations so far go on: that is open, they stop, it is set to a place, they call there, or go back to the link. Apart from the
+// place, since copying isa's Turn once for each operation makes the loop twice as slow (docs/DECISIONS.md).
 pub enum Course {
     Open,
     Stop,
     Set,
+    Call,
+    Back,
 }
 
-// What the operations so far came to: whether one has a register in flight, and then nothing else counts; the first fault of their
-// accesses; how many results and stores are in scratch; and where the first that decides it goes on.
+// What the operations so far came to: whether one names a register in flight, and then nothing else counts; where the first that decides it
+// goes on; the first fault of their accesses; and how many results and stores are in scratch.
 pub struct Seen {
     pub busy: bool,
+    pub course: Course,
     pub fault: FirstFault,
     pub results: usize,
     pub stores: usize,
-    pub course: Course,
     pub place: Place,
 }
 
@@ -457,6 +459,14 @@ fn aimed(turn: Turn, end: Place) -> Aim
             course: Course::Set,
             place,
         },
+        Turn::Calls(place) => Aim {
+            course: Course::Call,
+            place,
+        },
+        Turn::Back => Aim {
+            course: Course::Back,
+            place: end,
+        },
     }
 }
 
@@ -473,6 +483,8 @@ fn decide(op: Op, end: Place, value: &[u32; 288], course: Course, place: Place) 
         }
         Course::Stop => Aim { course, place },
         Course::Set => Aim { course, place },
+        Course::Call => Aim { course, place },
+        Course::Back => Aim { course, place },
     }
 }
 

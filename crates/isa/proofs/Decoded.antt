@@ -1,5 +1,6 @@
 -- What the crates above know of a decoded syllable.
-use mathlib.Core.Path.{_≡_, refl}
+use mathlib.Core.Path.{_≡_, refl, ap}
+use mathlib.Core.Bool.{false≢true}
 use mathlib.Core.Logic.{_⊎_, inl, inr}
 use Prim.Native.Nat.{ℕ, _+_, _*_, _%_, _^_, _≤_, _<_}
 use native.Mathlib.Nat.{mod-lt}
@@ -9,9 +10,9 @@ use Rattle.word.proofs.Widen.{widen-word}
 use Rattle.isa.specs.Syllable.{bits, opcode, formatOf}
 use Rattle.isa.specs.Register.{general, branch}
 use Rattle.isa.specs.Decode.{decodeAs, decode}
-use Rattle.isa.specs.Control.{wayAs, wayOf}
+use Rattle.isa.specs.Control.{wayAs, wayOf, solitary}
 use Rattle.isa.specs.declared.Op.{Op}
-use Rattle.isa.specs.declared.Way.the-variants.{Along}
+use Rattle.isa.specs.declared.Way.the-variants.{Along, Return}
 use Rattle.isa.specs.declared.Format.{Format}
 use Rattle.isa.specs.declared.Format.the-variants.{Still, Two, One, Carry, Test, Select, Load, Store, Copy, Jump, Fork}
 use Rattle.isa.proofs.Steps.{either-way}
@@ -112,6 +113,24 @@ decode-way c s = by (formatOf (opcode s))
     by Copy = refl
     by Jump = refl
     by Fork = refl
+
+-- a return writes nothing
+pub return-silent : (c s : ℕ) → wayOf s ≡ Return → (decode c s .t ≡ 0) × (decode c s .carry ≡ 0)
+unfolding decode wayOf
+return-silent c s h = by (formatOf (opcode s)) h
+  where
+    by : (f : Format) → wayAs s f ≡ Return → (decodeAs c s f .t ≡ 0) × (decodeAs c s f .carry ≡ 0)
+    by Still e = (refl, refl)
+    by Two e = absurd (false≢true (ap solitary e))
+    by One e = absurd (false≢true (ap solitary e))
+    by Carry e = absurd (false≢true (ap solitary e))
+    by Test e = absurd (false≢true (ap solitary e))
+    by Select e = absurd (false≢true (ap solitary e))
+    by Load e = absurd (false≢true (ap solitary e))
+    by Store e = absurd (false≢true (ap solitary e))
+    by Copy e = absurd (false≢true (ap solitary e))
+    by Jump e = absurd (false≢true (ap solitary e))
+    by Fork e = absurd (false≢true (ap solitary e))
 
 pub opcode-below : (s : ℕ) → opcode s < 64
 opcode-below s = omega arith

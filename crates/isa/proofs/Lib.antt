@@ -7,3 +7,5 @@ pub mod Written
 pub mod Lowest
 pub mod Instructions
 pub mod Ways
+pub mod Every
+pub mod Results

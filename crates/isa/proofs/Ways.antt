@@ -13,7 +13,7 @@ use Rattle.isa.specs.Program.{nowhere, spots, spotAt, cluster, operation
 use Rattle.isa.specs.Touch.{nextsBy, nexts}
 use Rattle.isa.specs.declared.Op.{Op}
 use Rattle.isa.specs.declared.Way.{Way}
-use Rattle.isa.specs.declared.Way.the-variants.{Along, Stop, Goto, Branch}
+use Rattle.isa.specs.declared.Way.the-variants.{Along, Stop, Goto, Branch, Call, Return}
 use Rattle.isa.specs.declared.Format.{Format}
 use Rattle.isa.specs.declared.Format.the-variants.{Still, Two, One, Carry, Test, Select, Load, Store, Copy, Jump, Fork}
 use Rattle.isa.proofs.Formats.{Among, format-among}
@@ -43,6 +43,8 @@ along-only Along h = refl
 along-only Stop h = absurd (false≢true (sym h))
 along-only (Goto t) h = absurd (false≢true (sym h))
 along-only (Branch v t) h = absurd (false≢true (sym h))
+along-only (Call t) h = absurd (false≢true (sym h))
+along-only Return h = absurd (false≢true (sym h))
 
 -- ---- the operations of a stretch
 

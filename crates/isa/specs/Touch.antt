@@ -1,13 +1,14 @@
 -- What an instruction reads and writes, with its delays, and where it goes on.
-use mathlib.Core.List.{List, [], _∷_, map}
-use Prim.Native.Nat.{ℕ}
+use mathlib.Core.List.{List, [], _∷_, _++_, map}
+use Prim.Native.Nat.{ℕ, zero, suc}
 use lib.Dec.{eqb, leb}
 use Rattle.word.specs.Choice.{pick}
 use Rattle.vliw.specs.Machine.{Dest}
 use Rattle.isa.specs.Syllable.{isAlu, isMul, isMem}
+use Rattle.isa.specs.Control.{readsEvery}
 use Rattle.isa.specs.declared.Op.{Op}
 use Rattle.isa.specs.declared.Way.{Way}
-use Rattle.isa.specs.declared.Way.the-variants.{Along, Stop, Goto, Branch}
+use Rattle.isa.specs.declared.Way.the-variants.{Along, Stop, Goto, Branch, Call, Return}
 use Rattle.isa.specs.declared.Nexts.{Nexts}
 use Rattle.isa.specs.declared.Nexts.the-variants.{Nowhere, One, Two}
 use Rattle.isa.specs.declared.Delays.{Delays}
@@ -18,10 +19,22 @@ delayOf d opcode register =
     pick (leb 256 register) (d .cmpb)
     (pick (isAlu opcode) (d .alu) (pick (isMul opcode) (d .mul) (pick (isMem opcode) (d .load) (d .copy))))
 
+-- registers r, r + 1, .., n of them
+abbrev pub registersFrom : ℕ → ℕ → List ℕ
+registersFrom r zero = []
+registersFrom r (suc n) = r ∷ registersFrom (suc r) n
+
+-- "the 256 general and 32 branch registers for every C"
+unfoldable pub everyRegister : List ℕ
+everyRegister = registersFrom 0 288
+
 -- the registers read; number 0 where there is none, which is never in flight
+abbrev pub readsOf : Op → List ℕ
+readsOf o = o .s1 ∷ o .s2 ∷ o .b ∷ o .stored ∷ pick (readsEvery (o .way)) everyRegister []
+
 abbrev pub reads : List Op → List ℕ
 reads [] = []
-reads (o ∷ os) = o .s1 ∷ o .s2 ∷ o .b ∷ o .stored ∷ reads os
+reads (o ∷ os) = readsOf o ++ reads os
 
 -- a result: its register and the opcode that makes it; a destination in register 0 is none
 pub record Result : Type 0 where
@@ -42,12 +55,15 @@ destinations os = map (λ (r : Result). r .register) (results os)
 abbrev pub dests : Delays → List Op → List Dest
 dests d os = map (λ (r : Result). record { reg = r .register; delay = delayOf d (r .opcode) (r .register) }) (results os)
 
--- "goto, its target; br and brf, target and following; stop, none; others, the following one"
+-- "goto, its target; br and brf, target and following; stop, none; others, the following one"; "The next of a call is its target; return has
+-- no nexts."
 abbrev pub nextsBy : Way → ℕ → List ℕ → List ℕ
 nextsBy Along following others = others
 nextsBy Stop following others = []
 nextsBy (Goto target) following others = target .0 ∷ []
 nextsBy (Branch wanted target) following others = target .0 ∷ following ∷ []
+nextsBy (Call target) following others = target .0 ∷ []
+nextsBy Return following others = []
 
 abbrev pub nexts : ℕ → List Op → List ℕ
 nexts following [] = following ∷ []

@@ -5,7 +5,7 @@ ghost use mathlib.Core.List.{List, map};
 ghost use Prim.Native.Nat.{ℕ, _≤_};
 ghost use Rattle.word.specs.Bytes.{words};
 ghost use Rattle.isa.specs.Syllable.{opcode};
-ghost use Rattle.isa.specs.Control.{wayOf, controls, isControl, targetOf, solitary, leaves, turnOf};
+ghost use Rattle.isa.specs.Control.{wayOf, controls, isControl, targetOf, solitary, leaves, readsEvery, turnOf};
 ghost use Rattle.isa.specs.Program.{spots, operation};
 ghost use Rattle.isa.specs.Touch.{nextsBy, nexts, listed};
 use crate::Found;
@@ -16,19 +16,24 @@ use crate::Turn;
 use crate::Way;
 use crate::stretch::syllable;
 use crate::syllable::bits;
-use crate::syllable::holds;
 use crate::syllable::opcode;
 
-// Opcode 0: nop or stop.
+// Opcode 0: nop, stop, call or return.
 pub fn still(s: u32) -> Way
     requires { ⌜ opcode s ≡ 0 ⌝ }
     ensures { λ r. ⌜ r ≡ wayOf s ⌝ }
 {
-    if holds(s, 23, 18, 1) {
-        Way::Stop
-    } else {
-        Way::Along
+    let number = bits(s, 23, 18);
+    if number == 1 {
+        return Way::Stop;
     }
+    if number == 2 {
+        return Way::Call(Place(bits(s, 17, 0) as usize));
+    }
+    if number == 3 {
+        return Way::Return;
+    }
+    Way::Along
 }
 
 // Opcode 61: goto has more bits for its target than br and brf.
@@ -73,6 +78,8 @@ pub fn controls(w: Way) -> bool
         Way::Stop => true,
         Way::Goto(_) => true,
         Way::Branch(_, _) => true,
+        Way::Call(_) => true,
+        Way::Return => true,
     }
 }
 
@@ -90,6 +97,8 @@ pub fn target(w: Way) -> Found
         Way::Stop => Found::Nothing,
         Way::Goto(t) => Found::At(t),
         Way::Branch(_, t) => Found::At(t),
+        Way::Call(t) => Found::At(t),
+        Way::Return => Found::Nothing,
     }
 }
 
@@ -102,10 +111,12 @@ pub fn solitary(w: Way) -> bool
         Way::Stop => true,
         Way::Goto(_) => false,
         Way::Branch(_, _) => false,
+        Way::Call(_) => false,
+        Way::Return => true,
     }
 }
 
-// Whether it never leads on to the following instruction.
+// Whether it never leads on to the following instruction; after a call its return does.
 pub fn leaves(w: Way) -> bool
     ensures { λ r. ⌜ r ≡ leaves w ⌝ }
 {
@@ -114,6 +125,22 @@ pub fn leaves(w: Way) -> bool
         Way::Stop => true,
         Way::Goto(_) => true,
         Way::Branch(_, _) => false,
+        Way::Call(_) => false,
+        Way::Return => true,
+    }
+}
+
+// Whether its instruction counts as one that reads every register.
+pub fn reads_every(w: Way) -> bool
+    ensures { λ r. ⌜ r ≡ readsEvery w ⌝ }
+{
+    match w {
+        Way::Along => false,
+        Way::Stop => false,
+        Way::Goto(_) => false,
+        Way::Branch(_, _) => false,
+        Way::Call(_) => true,
+        Way::Return => true,
     }
 }
 
@@ -132,6 +159,8 @@ pub fn turn(w: Way, b: u32, j: Place) -> Turn
                 Turn::To(j)
             }
         }
+        Way::Call(t) => Turn::Calls(t),
+        Way::Return => Turn::Back,
     }
 }
 
@@ -145,6 +174,8 @@ fn nexts_by(w: Way, j: Place) -> Nexts
         Way::Stop => Nexts::Nowhere,
         Way::Goto(t) => Nexts::One(t),
         Way::Branch(_, t) => Nexts::Two(t, j),
+        Way::Call(t) => Nexts::One(t),
+        Way::Return => Nexts::Nowhere,
     }
 }
 

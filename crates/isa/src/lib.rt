@@ -45,19 +45,25 @@ pub struct Spot {
     pub syllable: u32,
 }
 
-// The way that a syllable goes: along with the others, nowhere, to a target, or there if its branch register holds the wanted value.
+// The way that a syllable goes: along with the others, nowhere, to a target, there if its branch register holds the wanted value, there with
+// the link set to what follows, or to the link.
 pub enum Way {
     Along,
     Stop,
     Goto(Place),
     Branch(u32, Place),
+    Call(Place),
+    Return,
 }
 
-// Where an operation sends its instruction, once it runs: it leaves that to the others, it stops, or it goes to a place.
+// Where an operation sends its instruction, once it runs: it leaves that to the others, it stops, goes to a place, calls there, or goes back
+// to the link.
 pub enum Turn {
     Onward,
     Stops,
     To(Place),
+    Calls(Place),
+    Back,
 }
 
 // Where an instruction may go on.

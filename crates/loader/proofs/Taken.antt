@@ -52,6 +52,7 @@ pub record Placed (table : Table) (p : List ℕ) (j : ℕ) : Type 0 where
   pub first-opens : isStart p j ≡ true → opens (getD p j 0) ≡ true
   pub opened-most : spotAt p j .opened ≤ table .clusters
   pub target-starts : {t : Place} → targetOf (wayOf (getD p j 0)) ≡ At t → isStart p (t .0) ≡ true
+  pub lone : solitary (wayOf (getD p j 0)) ≡ true → isStart p j && ends (getD p j 0) ≡ true
   pub last-leaves : isStart p j ≡ true → following p j ≡ length p → any leaving (instructionAt p j) ≡ true
 
 module _ {table : Table} {p : List ℕ} (ok : Passed table p) where
@@ -69,6 +70,7 @@ module _ {table : Table} {p : List ℕ} (ok : Passed table p) where
         first-opens = kept _ _ first;
         opened-most = ltb-false _ _ opened;
         target-starts = λ e. aims (isStart p) _ goal e;
+        lone = kept _ _ stop;
         last-leaves = λ s e. kept _ _ last (last-is p j s e);
       }
 

@@ -12,7 +12,7 @@ use Rattle.isa.specs.Program.{cluster, operation}
 use Rattle.isa.specs.Touch.{nextsBy, nexts}
 use Rattle.isa.specs.declared.Spot.{Spot}
 use Rattle.isa.specs.declared.Way.{Way}
-use Rattle.isa.specs.declared.Way.the-variants.{Along, Stop, Goto, Branch}
+use Rattle.isa.specs.declared.Way.the-variants.{Along, Stop, Goto, Branch, Call, Return}
 use Rattle.isa.specs.declared.Found.the-variants.{At}
 use Rattle.isa.proofs.Decoded.{decode-way}
 use Rattle.refusals.specs.Broken.{leaving}
@@ -26,10 +26,20 @@ leaves-control Along h = h
 leaves-control Stop h = refl
 leaves-control (Goto t) h = refl
 leaves-control (Branch v t) h = refl
+leaves-control (Call t) h = refl
+leaves-control Return h = refl
 
 none-leaves : (xs : List Spot) → controlsIn xs ≤ 0 → any leaving xs ≡ false
 none-leaves xs few =
     is-false _ (λ e. let (x, m, l) = any-true-in leaving xs e in omega (arith, count-some (λ y. isControl (y .syllable)) m (leaves-control (wayOf (x .syllable)) l)))
+
+-- where the one control syllable does not leave, none does
+pub one-stays : {x : Spot} {xs : List Spot} → List·Memᴰ x xs → controlsIn xs ≤ 1 → isControl (x .syllable) ≡ true → leaving x ≡ false → any leaving xs ≡ false
+one-stays (List·Memᴰ·head {xs = xs} e) few c l = let rest = rw (← e, c) at few in rw (← e, l, none-leaves xs (omega arith))
+one-stays {x} (List·Memᴰ·tail {x = y} {xs = xs} m) few c l =
+    let some = count-some (λ z. isControl (z .syllable)) m c in
+    let stays : leaving y ≡ false = is-false (leaving y) (λ e. let more = rw (leaves-control (wayOf (y .syllable)) e) at few in omega arith) in
+    rw (stays, one-stays m (omega arith) c l)
 
 -- a next place is a target, or the following place where nothing leaves for good
 pub data Next (f : ℕ) (xs : List Spot) (t : ℕ) : Type 0 where
@@ -55,6 +65,8 @@ next-is f (x ∷ xs) {t} few m =
     by Along e m more = later (ap leaves e) (more m)
     by Stop e m more = absurd (List·Memᴰ·not-nil m)
     by (Goto g) e m more = here (g .0) e refl (List·Memᴰ·eq-of-singleton m)
+    by (Call g) e m more = here (g .0) e refl (List·Memᴰ·eq-of-singleton m)
+    by Return e m more = absurd (List·Memᴰ·not-nil m)
     by (Branch v g) e (List·Memᴰ·head q) more = here (g .0) e refl q
     by (Branch v g) e (List·Memᴰ·tail m) more =
         let rest = rw e at few in

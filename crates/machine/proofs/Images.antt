@@ -1,15 +1,15 @@
--- Laws of the image: an image and the place and registers that it holds give each other.
+-- Laws of the image: an image and the place, the registers and the link that it holds give each other.
 use mathlib.Core.Path.{_≡_, refl, sym, ap, _∙_}
 use mathlib.Core.List.{List, [], _∷_, _++_}
 use Prim.Native.Nat.{ℕ, zero, suc, _+_, _*_, _/_, _^_, _≤_, _<_}
 use native.Mathlib.Nat.{add-zero, zero-add, add-suc, suc-add, mod-lt, mod-eq-of-lt, zero-lt-suc, not-suc-le-zero, le-of-suc-le-suc}
 use native.Mathlib.Omega.{arith}
-use lib.ListN.{length, getD, set, take, drop, length-drop, take-append-drop}
+use lib.ListN.{length, getD, set, take, drop, length-append, length-drop, take-append-drop}
 use lib.Seq.{sets, length-take-le, drop-cons, drop-drop, drop-length, getD-drop}
 use Rattle.word.specs.Bytes.{AreBytes, number, bytes, wordAt}
 use Rattle.word.proofs.Bytes.{bytes-number, number-bytes, numberAt-lt, areBytes-take, areBytes-drop}
 use Rattle.vliw.specs.Cell.{Cell, Registers, at}
-use Rattle.machine.specs.Image.{imageOffset, placeIn, cellIn, cellsFrom, registersIn, cellBytes, registerBytes, imageOf}
+use Rattle.machine.specs.Image.{imageOffset, placeIn, linkIn, cellIn, cellsFrom, registersIn, cellBytes, registerBytes, imageOf}
 
 -- ---- the registers of an image
 
@@ -50,9 +50,9 @@ pub sets-append : (l : List ℕ) (i : ℕ) (xs ys : List ℕ) {j : ℕ} → i + 
 sets-append l i [] ys e = rw (← e, add-zero)
 sets-append l i (x ∷ xs) ys e = sets-append (set l i x) (suc i) xs ys (omega arith)
 
-pub imageOf-length : (place : ℕ) (l : Registers) → length l ≡ 288 → length (imageOf place l) ≡ 2884
+pub imageOf-length : (place : ℕ) (l : Registers) (link : ℕ) → length l ≡ 288 → length (imageOf place l link) ≡ 2888
 unfolding imageOf
-imageOf-length place l e = omega (arith, registerBytes-length l)
+imageOf-length place l link e = omega (arith, registerBytes-length l, length-append (registerBytes l) (bytes 4 link))
 
 -- ---- what an image holds is written as that image
 
@@ -76,15 +76,21 @@ module _ (image : List ℕ) (h : AreBytes image) where
       ∙ ap (λ (x : List ℕ). bytes 4 (c .value) ++ x) (word-again (o + 4) (omega arith))
       ∙ word-again o (omega arith)
 
-  cells-again : (r n : ℕ) → imageOffset (r + n) ≡ length image → registerBytes (cellsFrom image r n) ≡ drop (imageOffset r) image
-  cells-again r zero e = let end : imageOffset r ≡ length image = omega arith in rw (end, drop-length image)
-  cells-again r (suc n) e =
-      ap (λ (x : List ℕ). cellBytes (cellIn image r) ++ x) (cells-again (suc r) n (omega arith)) ∙ cell-again r (omega arith)
+  cells-again : (r n e : ℕ) → r + n ≡ e → imageOffset e ≤ length image → registerBytes (cellsFrom image r n) ++ drop (imageOffset e) image ≡ drop (imageOffset r) image
+  cells-again r zero e q l = let here : e ≡ r = omega arith in rw here
+  cells-again r (suc n) e q l =
+      ap (λ (x : List ℕ). cellBytes (cellIn image r) ++ x) (cells-again (suc r) n e (omega arith) l) ∙ cell-again r (omega arith)
 
-pub image-read : (image : List ℕ) → length image ≡ 2884 → AreBytes image → imageOf (placeIn image) (registersIn image) ≡ image
+  -- the link is the last
+  link-again : (o : ℕ) → o + 4 ≡ length image → bytes 4 (wordAt o image) ≡ drop o image
+  link-again o e = rw (e, drop-length image) at (word-again o (omega arith))
+
+pub image-read : (image : List ℕ) → length image ≡ 2888 → AreBytes image → imageOf (placeIn image) (registersIn image) (linkIn image) ≡ image
 unfolding imageOf registersIn
 image-read image e h =
-    ap (λ (x : List ℕ). bytes 4 (placeIn image) ++ x) (cells-again image h 0 288 (sym e)) ∙ word-again image h 0 (omega arith)
+    ap (λ (x : List ℕ). bytes 4 (placeIn image) ++ (registerBytes (cellsFrom image 0 288) ++ x)) (link-again image h (imageOffset 288) (sym e))
+    ∙ ap (λ (x : List ℕ). bytes 4 (placeIn image) ++ x) (cells-again image h 0 288 288 refl (omega arith))
+    ∙ word-again image h 0 (omega arith)
 
 -- ---- what an image is written from is read of it
 
@@ -112,19 +118,35 @@ cell-back image r c rest s e =
       landing = (sym (getD-drop o image 9 0) ∙ ap (λ (x : List ℕ). getD x 9 0) e) k;
     }
 
-cells-back : (image : List ℕ) (r : ℕ) (l : Registers) → AllSmall l → drop (imageOffset r) image ≡ registerBytes l → cellsFrom image r (length l) ≡ l
-cells-back image r [] s e = refl
-cells-back image r (c ∷ l) s e =
-    let next : imageOffset r + 10 ≡ imageOffset (suc r) = omega arith in
-    let rest : drop (imageOffset (suc r)) image ≡ registerBytes l = rw (← next, ← drop-drop 10 (imageOffset r) image, e) in
-    λ k. cell-back image r c (registerBytes l) (s 0) e k ∷ cells-back image (suc r) l (λ i. s (suc i)) rest k
+module _ (image rest : List ℕ) where
+  later-cells : (r : ℕ) (c : Cell) (l : Registers) → drop (imageOffset r) image ≡ registerBytes (c ∷ l) ++ rest → drop (imageOffset (suc r)) image ≡ registerBytes l ++ rest
+  later-cells r c l e = let next : imageOffset r + 10 ≡ imageOffset (suc r) = omega arith in rw (← next, ← drop-drop 10 (imageOffset r) image, e)
 
-pub read-image : (place : ℕ) (l : Registers) → place < 2 ^ 32 → length l ≡ 288 → AllSmall l
-    → (placeIn (imageOf place l) ≡ place) × (registersIn (imageOf place l) ≡ l)
+  cells-back : (r : ℕ) (l : Registers) → AllSmall l → drop (imageOffset r) image ≡ registerBytes l ++ rest → cellsFrom image r (length l) ≡ l
+  cells-back r [] s e = refl
+  cells-back r (c ∷ l) s e =
+      λ k. cell-back image r c (registerBytes l ++ rest) (s 0) e k ∷ cells-back (suc r) l (λ i. s (suc i)) (later-cells r c l e) k
+
+  -- what comes after them
+  cells-end : (r e : ℕ) (l : Registers) → r + length l ≡ e → drop (imageOffset r) image ≡ registerBytes l ++ rest → drop (imageOffset e) image ≡ rest
+  cells-end r e [] q h = let here : e ≡ r = omega arith in rw here h
+  cells-end r e (c ∷ l) q h = cells-end (suc r) e l (omega arith) (later-cells r c l h)
+
+-- what an image that is written holds
+pub record Holds (image : List ℕ) (i : ℕ) (l : Registers) (k : ℕ) : Type 0 where
+  pub place : placeIn image ≡ i
+  pub registers : registersIn image ≡ l
+  pub link : linkIn image ≡ k
+
+pub read-image : (place : ℕ) (l : Registers) (link : ℕ) → place < 2 ^ 32 → link < 2 ^ 32 → length l ≡ 288 → AllSmall l → Holds (imageOf place l link) place l link
 unfolding imageOf registersIn
-read-image place l h e s =
-    let image : List ℕ = imageOf place l in
-    (word-back image 0 place (registerBytes l) h refl, ap (cellsFrom image 0) (sym e) ∙ cells-back image 0 l s refl)
+read-image place l link h k e s =
+    let image : List ℕ = imageOf place l link in
+    record {
+      place = word-back image 0 place _ h refl;
+      registers = ap (cellsFrom image 0) (sym e) ∙ cells-back image (bytes 4 link) 0 l s refl;
+      link = word-back image (imageOffset 288) link [] k (cells-end image (bytes 4 link) 0 288 l (zero-add (length l) ∙ e) refl);
+    }
 
 -- ---- bytes hold small registers, and those make bytes
 
@@ -140,6 +162,9 @@ module _ (image : List ℕ) (h : AreBytes image) where
       }
   cellsFrom-small r (suc n) (suc i) = cellsFrom-small (suc r) n i
 
+  pub link-small : linkIn image < 2 ^ 32
+  link-small = numberAt-lt 4 (imageOffset 288) image h
+
   pub registers-small : AllSmall (registersIn image)
   unfolding registersIn
   registers-small = cellsFrom-small 0 288
@@ -154,13 +179,13 @@ two-then l p q h zero = p
 two-then l p q h (suc zero) = q
 two-then l p q h (suc (suc i)) = h i
 
-registerBytes-areBytes : (l : Registers) → AllSmall l → AreBytes (registerBytes l)
-registerBytes-areBytes [] s i = zero-lt-suc 255
-registerBytes-areBytes (c ∷ l) s i =
-    let counts : List ℕ = c .busy ∷ c .landing ∷ registerBytes l in
-    let h : AreBytes counts = two-then (registerBytes l) (s 0 .busy) (s 0 .landing) (registerBytes-areBytes l (λ r. s (suc r))) in
-    bytes-then 4 (c .value) (bytes 4 (c .waiting) ++ counts) (bytes-then 4 (c .waiting) counts h) i
+registers-then : (l : Registers) (rest : List ℕ) → AllSmall l → AreBytes rest → AreBytes (registerBytes l ++ rest)
+registers-then [] rest s h i = h i
+registers-then (c ∷ l) rest s h i =
+    let counts : List ℕ = c .busy ∷ c .landing ∷ registerBytes l ++ rest in
+    let k : AreBytes counts = two-then (registerBytes l ++ rest) (s 0 .busy) (s 0 .landing) (registers-then l rest (λ r. s (suc r)) h) in
+    bytes-then 4 (c .value) (bytes 4 (c .waiting) ++ counts) (bytes-then 4 (c .waiting) counts k) i
 
-pub imageOf-areBytes : (place : ℕ) (l : Registers) → AllSmall l → AreBytes (imageOf place l)
+pub imageOf-areBytes : (place : ℕ) (l : Registers) (link : ℕ) → AllSmall l → AreBytes (imageOf place l link)
 unfolding imageOf
-imageOf-areBytes place l s = bytes-then 4 place (registerBytes l) (registerBytes-areBytes l s)
+imageOf-areBytes place l link s = bytes-then 4 place (registerBytes l ++ bytes 4 link) (registers-then l (bytes 4 link) s (bytes-then 4 link [] (λ i. zero-lt-suc 255)))

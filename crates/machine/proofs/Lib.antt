@@ -4,4 +4,5 @@ pub mod Validity
 pub mod Written
 pub mod Phases
 pub mod Acts
+pub mod Linking
 pub mod Aimed

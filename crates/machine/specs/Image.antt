@@ -1,4 +1,5 @@
--- "Image: place, 4 bytes; general then branch registers by cluster, each value 4, waiting 4, busy 1, landing 1."
+-- "Image: place, 4 bytes; general then branch registers by cluster, each value 4, waiting 4, busy 1, landing 1." By order 1 "its image grows
+-- by 4 bytes at the end", the link register.
 -- All 256 general registers come first, then all 32 branch registers: docs/DECISIONS.md, reading 1.
 use mathlib.Core.List.{List, [], _∷_, _++_}
 use Prim.Native.Nat.{ℕ, zero, suc, _+_, _*_}
@@ -12,6 +13,10 @@ imageOffset r = 4 + 10 * r
 
 abbrev pub placeIn : List ℕ → ℕ
 placeIn image = wordAt 0 image
+
+-- after the last register
+abbrev pub linkIn : List ℕ → ℕ
+linkIn image = wordAt (imageOffset 288) image
 
 abbrev pub cellIn : List ℕ → ℕ → Cell
 cellIn image r =
@@ -37,5 +42,5 @@ abbrev pub registerBytes : Registers → List ℕ
 registerBytes [] = []
 registerBytes (c ∷ cs) = cellBytes c ++ registerBytes cs
 
-unfoldable pub imageOf : ℕ → Registers → List ℕ
-imageOf place cells = bytes 4 place ++ registerBytes cells
+unfoldable pub imageOf : ℕ → Registers → ℕ → List ℕ
+imageOf place cells link = bytes 4 place ++ (registerBytes cells ++ bytes 4 link)

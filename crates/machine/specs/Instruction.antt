@@ -1,6 +1,6 @@
 -- Document 01, "One instruction", of VEX: what an instruction does with the registers' values and the memory.
 use mathlib.Core.Bool.{Bool}
-use mathlib.Core.List.{List, [], _∷_, map}
+use mathlib.Core.List.{List, [], _∷_, _++_, map}
 use Prim.Native.Nat.{ℕ}
 use lib.Dec.{eqb}
 use lib.ListN.{getD, length}
@@ -8,19 +8,20 @@ use Rattle.word.specs.Choice.{pick}
 use Rattle.word.specs.Bytes.{numberAt}
 use Rattle.ops.specs.Value.{value, carry, address, loaded, stored}
 use Rattle.vliw.specs.Machine.{Out, fault, stop, go, Instruction}
-use Rattle.vliw.specs.declared.Fault.the-variants.{StoresClash}
-use Rattle.isa.specs.Program.{operationsAt, following}
+use Rattle.vliw.specs.declared.Fault.the-variants.{StoresClash, BadLink}
+use Rattle.isa.specs.Program.{isStart, operationsAt, following}
 use Rattle.isa.specs.Touch.{reads, dests, nexts}
 use Rattle.isa.specs.Control.{place, turnOf}
 use Rattle.isa.specs.Syllable.{within, isMem, isCopy}
 use Rattle.isa.specs.declared.Turn.{Turn}
-use Rattle.isa.specs.declared.Turn.the-variants.{Onward, Stops, To}
+use Rattle.isa.specs.declared.Turn.the-variants.{Onward, Stops, To, Calls, Back}
 use Rattle.isa.specs.declared.Op.{Op}
 use Rattle.isa.specs.declared.Delays.{Delays}
 use Rattle.memory.specs.Memory.{sizeOf, access, faultIn, offsetIn, _orElse_, Store, anyShare}
 use Rattle.memory.specs.declared.Access.{Access}
 use Rattle.memory.specs.declared.FirstFault.{FirstFault}
 use Rattle.memory.specs.declared.FirstFault.the-variants.{None, First}
+use Rattle.machine.specs.Link.{Memory, Change, storing, linking}
 
 -- an operation with the values of what it reads: of s1, of s2 or the immediate, of b, and of the register that a store stores
 pub record Fired : Type 0 where
@@ -88,34 +89,46 @@ faultOf length (e ∷ es) = accessFault length e orElse faultOf length es
 -- where it goes on: the one control syllable decides; nothing where it stops
 pub data Next : Type 0 where
   at : ℕ → Next
+  calls : ℕ → Next
+  back : Next
   stops : Next
 
 abbrev pub nextBy : Turn → Next → Next
 nextBy Onward others = others
 nextBy Stops others = stops
 nextBy (To target) others = at (target .0)
+nextBy (Calls target) others = calls (target .0)
+nextBy Back others = back
 
 abbrev pub nextOf : ℕ → List Fired → Next
 nextOf following [] = at following
 nextOf following (e ∷ es) = nextBy (turnOf (e .op .way) (e .b) (place following)) (nextOf following es)
 
-abbrev pub faulted : FirstFault → Out Store → Out Store
+abbrev pub faulted : FirstFault → Out Change → Out Change
 faulted None otherwise = otherwise
 faulted (First f) otherwise = fault f
 
--- "all operands and loaded bytes are read before anything is written": 12 and 13, then 14, then the results and the stores
-abbrev pub outBy : Next → List ℕ → List Fired → Out Store
-outBy stops m es = stop
-outBy (at j) m es =
+-- "all operands and loaded bytes are read before anything is written": 12 and 13, then 14, then the results, the stores and what becomes of
+-- the link
+abbrev pub goesOn : List Change → ℕ → List ℕ → List Fired → Out Change
+goesOn links j m es =
     let ss = storesOf (length m) es in
-    faulted (faultOf (length m) es) (pick (anyShare ss) (fault StoresClash) (go (resultValues m es) ss j))
+    faulted (faultOf (length m) es) (pick (anyShare ss) (fault StoresClash) (go (resultValues m es) (map storing ss ++ links) j))
 
-unfoldable pub acts : ℕ → List Op → List ℕ → List ℕ → Out Store
-acts following os f m = let es = map (fire f) os in outBy (nextOf following es) m es
+-- "call .. sets the link register to the index of the instruction after it .. ; return goes to it"; 17: "link register not an instruction's
+-- first syllable when return runs, after 11 and before 12"
+abbrev pub outBy : (ℕ → Bool) → ℕ → Next → Memory → List Fired → Out Change
+outBy starts following stops m es = stop
+outBy starts following (at j) m es = goesOn [] j (m .bytes) es
+outBy starts following (calls j) m es = goesOn (linking following ∷ []) j (m .bytes) es
+outBy starts following back m es = pick (starts (m .link)) (goesOn [] (m .link) (m .bytes) es) (fault BadLink)
+
+unfoldable pub acts : (ℕ → Bool) → ℕ → List Op → List ℕ → Memory → Out Change
+acts starts following os f m = let es = map (fire f) os in outBy starts following (nextOf following es) m es
 
 -- a program as the abstract machine's instructions
-abbrev pub instructionOf : Delays → List ℕ → ℕ → Instruction (List ℕ) Store
+abbrev pub instructionOf : Delays → List ℕ → ℕ → Instruction Memory Change
 instructionOf d program i =
     let os = operationsAt program i in
     let j = following program i in
-    record { reads = reads os; dests = dests d os; nexts = nexts j os; acts = acts j os }
+    record { reads = reads os; dests = dests d os; nexts = nexts j os; acts = acts (isStart program) j os }

@@ -1,3 +1,4 @@
+pub mod Link
 pub mod Instruction
 pub mod Image
 pub mod State

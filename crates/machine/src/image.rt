@@ -3,16 +3,16 @@ ghost use mathlib.Core.Path.{_≡_};
 ghost use Prim.Native.Nat.{_+_, _^_, _≤_, _<_};
 ghost use lib.ListN.{length};
 ghost use lib.Seq.{sets};
-ghost use Rattle.machine.specs.Image.{imageOffset, placeIn, cellsFrom, registersIn, cellBytes, registerBytes, imageOf};
+ghost use Rattle.machine.specs.Image.{imageOffset, placeIn, linkIn, cellsFrom, registersIn, cellBytes, registerBytes, imageOf};
 ghost use Rattle.machine.specs.State.{cells, registersOf, Sized};
 use crate::State;
 use isa::Place;
 use word::number::put_word;
 use word::number::word_at;
 
-// Where register `r` stands in the image.
+// Where register `r` stands in the image, and the link after the last.
 pub fn offset(r: usize) -> usize
-    requires { ⌜ r < 288 ⌝ }
+    requires { ⌜ r ≤ 288 ⌝ }
     ensures { λ at. ⌜ at ≡ imageOffset r ⌝ }
 {
     4 + 10 * r
@@ -27,7 +27,7 @@ fn read_bank(
     busy: &mut [u8],
     landing: &mut [u8],
 )
-    requires { ⌜ (length (now image) ≡ 2884) × (base + length (now value) ≤ 288) ⌝ }
+    requires { ⌜ (length (now image) ≡ 2888) × (base + length (now value) ≤ 288) ⌝ }
     requires { ⌜ (length (now waiting) ≡ length (now value)) × (length (now busy) ≡ length (now value)) × (length (now landing) ≡ length (now value)) ⌝ }
     ensures { λ _. ⌜ cells (now (value .exit)) (now (waiting .exit)) (now (busy .exit)) (now (landing .exit))
         ≡ cellsFrom (now (image .entry)) base (length (now (value .entry))) ⌝ }
@@ -43,9 +43,9 @@ fn read_bank(
 
 // The state that an image holds.
 pub fn read(image: &[u8]) -> State
-    requires { ⌜ length (now image) ≡ 2884 ⌝ }
+    requires { ⌜ length (now image) ≡ 2888 ⌝ }
     ensures { λ r. ⌜ Sized r ⌝ }
-    ensures { λ r. ⌜ (r .place .0 ≡ placeIn (now (image .entry))) × (registersOf r ≡ registersIn (now (image .entry))) ⌝ }
+    ensures { λ r. ⌜ (r .place .0 ≡ placeIn (now (image .entry))) × (registersOf r ≡ registersIn (now (image .entry))) × (r .link .0 ≡ linkIn (now (image .entry))) ⌝ }
 {
     let mut value = [0u32; 256];
     let mut waiting = [0u32; 256];
@@ -65,8 +65,10 @@ pub fn read(image: &[u8]) -> State
         &mut branch_landing,
     );
     let place = Place(word_at(image, 0) as usize);
+    let link = Place(word_at(image, offset(288)) as usize);
     State {
         place,
+        link,
         value,
         waiting,
         busy,
@@ -80,7 +82,7 @@ pub fn read(image: &[u8]) -> State
 
 // Register `r`, over what the image holds of it.
 fn put_cell(image: &mut [u8], r: usize, value: u32, waiting: u32, busy: u8, landing: u8)
-    requires { ⌜ (length (now image) ≡ 2884) × (r < 288) ⌝ }
+    requires { ⌜ (length (now image) ≡ 2888) × (r < 288) ⌝ }
     ensures { λ _. ⌜ now (image .exit)
         ≡ sets (now (image .entry)) (imageOffset r) (cellBytes (record { value = value; waiting = waiting; busy = busy; landing = landing })) ⌝ }
 {
@@ -100,7 +102,7 @@ fn put_bank<'a>(
     busy: &'a [u8],
     landing: &'a [u8],
 )
-    requires { ⌜ (length (now image) ≡ 2884) × (base + length (now value) ≤ 288) ⌝ }
+    requires { ⌜ (length (now image) ≡ 2888) × (base + length (now value) ≤ 288) ⌝ }
     requires { ⌜ (length (now waiting) ≡ length (now value)) × (length (now busy) ≡ length (now value)) × (length (now landing) ≡ length (now value)) ⌝ }
     ensures { λ _. ⌜ now (image .exit)
         ≡ sets (now (image .entry)) (imageOffset base) (registerBytes (cells (now (value .entry)) (now (waiting .entry)) (now (busy .entry)) (now (landing .entry)))) ⌝ }
@@ -112,10 +114,10 @@ fn put_bank<'a>(
 
 // The state's image, over all that `image` held.
 pub fn write(image: &mut [u8], s: State)
-    requires { ⌜ length (now image) ≡ 2884 ⌝ }
+    requires { ⌜ length (now image) ≡ 2888 ⌝ }
     requires { ⌜ Sized s ⌝ }
-    requires { ⌜ s .place .0 < 2 ^ 32 ⌝ }
-    ensures { λ _. ⌜ now (image .exit) ≡ imageOf (s .place .0) (registersOf s) ⌝ }
+    requires { ⌜ (s .place .0 < 2 ^ 32) × (s .link .0 < 2 ^ 32) ⌝ }
+    ensures { λ _. ⌜ now (image .exit) ≡ imageOf (s .place .0) (registersOf s) (s .link .0) ⌝ }
 {
     put_word(image, 0, s.place.0 as u32);
     put_bank(image, 0, &s.value, &s.waiting, &s.busy, &s.landing);
@@ -127,4 +129,5 @@ pub fn write(image: &mut [u8], s: State)
         &s.branch_busy,
         &s.branch_landing,
     );
+    put_word(image, offset(288), s.link.0 as u32);
 }

@@ -4,9 +4,10 @@ pub mod valid;
 
 use isa::Place;
 
-// The registers of all clusters, general and branch, and the place. Document 01 names the arrays.
+// The place, the link, and the registers of all clusters, general and branch. Document 01 names the arrays.
 pub struct State {
     pub place: Place,
+    pub link: Place,
     pub value: [u32; 256],
     pub waiting: [u32; 256],
     pub busy: [u8; 256],

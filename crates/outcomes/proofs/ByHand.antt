@@ -2,7 +2,7 @@
 use mathlib.Core.Path.{_≡_, refl, sym, ap, _∙_}
 use mathlib.Core.Bool.{Bool, true}
 use mathlib.Core.List.{List, [], map}
-use Prim.Native.Nat.{ℕ}
+use Prim.Native.Nat.{ℕ, _^_, _<_}
 use native.Mathlib.Omega.{arith}
 use lib.ListN.{length, getD}
 use Rattle.word.specs.Bytes.{words}
@@ -21,13 +21,14 @@ use Rattle.schedule.specs.Rule.{Says}
 use Rattle.schedule.specs.Answer.{Checks}
 use Rattle.schedule.specs.declared.Verdict.{Verdict}
 use Rattle.schedule.proofs.Once.{one-verdict, one-outcome}
-use Rattle.memory.specs.Memory.{store, anyShare}
+use Rattle.memory.specs.Memory.{anyShare}
 use Rattle.memory.specs.Held.{storesIn}
-use Rattle.machine.specs.Image.{placeIn, registersIn}
+use Rattle.machine.specs.Image.{placeIn, registersIn, linkIn}
+use Rattle.machine.specs.Link.{memoryOf, change}
 use Rattle.machine.specs.Instruction.{instructionOf}
 use Rattle.machine.specs.State.{registersOf, Sized}
 use Rattle.machine.specs.declared.State.{State}
-use Rattle.ticks.specs.Ticks.{views}
+use Rattle.ticks.specs.Ticks.{views, latest}
 use Rattle.run.specs.Loop.{Returned}
 use Rattle.run.specs.declared.Left.{Left}
 use Rattle.outcomes.specs.OneOutcome.{OneOutcome}
@@ -67,24 +68,28 @@ schedule-check-one table program = one-verdict (table .delays) (words program)
 pub memory-shared-one : (offsets sizes : List ℕ) (count : ℕ) → OneOutcome (λ (r : Bool). ((vs : List ℕ) → r ≡ anyShare (storesIn offsets vs sizes count)))
 memory-shared-one offsets sizes count a b p q = p [] ∙ sym (q [])
 
--- a state is its place and its registers
+-- a state is its place, its registers and its link
 pub machine-read-one : (image : List ℕ)
-    → OneOutcome (λ (r : State). Sized r × ((r .place .0 ≡ placeIn image) × (registersOf r ≡ registersIn image)))
-machine-read-one image a b p q = state-is (p .0) (q .0) (p .1 .1 ∙ sym (q .1 .1)) (p .1 .0 ∙ sym (q .1 .0))
+    → OneOutcome (λ (r : State). Sized r × ((r .place .0 ≡ placeIn image) × (registersOf r ≡ registersIn image) × (r .link .0 ≡ linkIn image)))
+machine-read-one image a b p q = state-is (p .0) (q .0) (p .1 .1 ∙ sym (q .1 .1)) (p .1 .0 ∙ sym (q .1 .0)) (p .1 .2 ∙ sym (q .1 .2))
 
-pub ticks-leave-one : (value old ready land : List ℕ) (t : Count) (place : Place)
-    → OneOutcome (λ (s : State). Sized s × (s .place ≡ place) × (registersOf s ≡ views (t .0) value old ready land))
-ticks-leave-one value old ready land t place a b p q =
-    state-is (p .0) (q .0) (p .2 ∙ sym (q .2)) (ap (λ (x : Place). x .0) (p .1 ∙ sym (q .1)))
+pub ticks-leave-one : (value old ready land : List ℕ) (t : Count) (place link : Place)
+    → OneOutcome (λ (s : State). Sized s × ((s .place ≡ place) × (s .link ≡ link)) × (registersOf s ≡ views (t .0) value old ready land))
+ticks-leave-one value old ready land t place link a b p q =
+    state-is (p .0) (q .0) (p .2 ∙ sym (q .2)) (ap (λ (x : Place). x .0) (p .1 .0 ∙ sym (q .1 .0))) (ap (λ (x : Place). x .0) (p .1 .1 ∙ sym (q .1 .1)))
+
+-- a count is its number
+pub ticks-free-from-one : (ready : List ℕ) → OneOutcome (λ (r : Count). r .0 ≡ latest 0 ready)
+ticks-free-from-one ready a b p q = λ i. record { 0 = (p ∙ sym q) i }
 
 -- what the machine's run leaves is what is returned
 pub run-run-one : (table : Table) (program memory landing : List ℕ) (n : Count) (s : State)
-    → OneOutcome (λ (o : record { result : Left; memory : List ℕ }). (isStart (words program) (o .result .state .place .0) ≡ true)
-    × Returned (run (step store (instructionOf (table .delays) (words program))) (n .0)
-    (record { place = s .place .0; registers = registersOf s; memory = memory; landing = landing; orders = inOrder })) (o .result) (o .memory))
+    → OneOutcome (λ (o : record { result : Left; memory : List ℕ }). ((isStart (words program) (o .result .state .place .0) ≡ true) × (o .result .state .link .0 < 2 ^ 32))
+    × Returned (run (step change (instructionOf (table .delays) (words program))) (n .0)
+    (record { place = s .place .0; registers = registersOf s; memory = memoryOf memory (s .link .0); landing = landing; orders = inOrder })) (o .result) (o .memory))
 run-run-one table program memory landing n s a b (_, p) (_, q) =
     let state : a .result .state ≡ b .result .state =
-    state-is (p .sized) (q .sized) (sym (p .registers) ∙ q .registers) (sym (p .place) ∙ q .place) in
+    state-is (p .sized) (q .sized) (sym (p .registers) ∙ q .registers) (sym (p .place) ∙ q .place) (sym (p .link) ∙ q .link) in
     λ i. record {
       result = record { ending = (sym (p .ending) ∙ q .ending) i; count = record { 0 = (sym (p .count) ∙ q .count) i }; state = state i };
       memory = (sym (p .memory) ∙ q .memory) i;

@@ -14,6 +14,7 @@ isa = record {
   target-one = λ _ _ _ p q. p ∙ sym q;
   solitary-one = λ _ _ _ p q. p ∙ sym q;
   leaves-one = λ _ _ _ p q. p ∙ sym q;
+  reads-every-one = λ _ _ _ p q. p ∙ sym q;
   turn-one = λ _ _ _ _ _ p q. p ∙ sym q;
   nexts-one = isa-nexts-one;
   immediate-one = λ _ _ _ p q. p ∙ sym q;

@@ -1,4 +1,4 @@
--- A state is its place and its registers: arrays of one length are what their registers hold.
+-- A state is its place, its registers and its link: arrays of one length are what their registers hold.
 use mathlib.Core.Path.{_≡_, refl, sym, ap, _∙_}
 use mathlib.Core.List.{List, [], _∷_, map}
 use Prim.Native.Nat.{ℕ}
@@ -62,12 +62,13 @@ module _ {s t : State} (x : Sized s) (y : Sized t) (e : registersOf s ≡ regist
       sym (drop-append-seam (generalOf s) (branchOf s)) ∙ ap (drop (length (generalOf s))) e
       ∙ rw seam (drop-append-seam (generalOf t) (branchOf t))
 
-  pub state-is : s .place .0 ≡ t .place .0 → s ≡ t
-  state-is p =
+  pub state-is : s .place .0 ≡ t .place .0 → s .link .0 ≡ t .link .0 → s ≡ t
+  state-is p k =
       let g = arrays-are (columns (general x)) (columns (general y)) generals in
       let b = arrays-are (columns (branch x)) (columns (branch y)) branches in
       λ i. record {
         place = place-is p i;
+        link = place-is k i;
         value = g .0 i;
         waiting = g .1 i;
         busy = g .2 i;

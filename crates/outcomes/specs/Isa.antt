@@ -7,7 +7,7 @@ use lib.Dec.{eqb}
 use lib.ListN.{getD}
 use Rattle.word.specs.Bytes.{words}
 use Rattle.word.specs.Choice.{bit}
-use Rattle.isa.specs.Control.{controls, isControl, leaves, solitary, targetOf, turnOf, wayOf}
+use Rattle.isa.specs.Control.{controls, isControl, leaves, readsEvery, solitary, targetOf, turnOf, wayOf}
 use Rattle.isa.specs.Decode.{decode, immediateOf, offsetOf}
 use Rattle.isa.specs.Program.{beforeAll, cluster, following, isStart, nextSpot, operation, spots}
 use Rattle.isa.specs.Syllable.{bits, ends, formatOf, isAlu, isCopy, isMem, isMul, opcode, opens, source, within}
@@ -36,6 +36,7 @@ pub record Isa : Type 0 where
   pub target-one : (w : Way) → OneOutcome (λ (r : Found). r ≡ targetOf w)
   pub solitary-one : (w : Way) → OneOutcome (λ (r : Bool). r ≡ solitary w)
   pub leaves-one : (w : Way) → OneOutcome (λ (r : Bool). r ≡ leaves w)
+  pub reads-every-one : (w : Way) → OneOutcome (λ (r : Bool). r ≡ readsEvery w)
   pub turn-one : (w : Way) (b : ℕ) (j : Place) → OneOutcome (λ (r : Turn). r ≡ turnOf w b j)
   pub nexts-one : (stretch : List ℕ) (j : Place) → OneOutcome (λ (r : Nexts). listed r ≡ nexts (j .0) (map operation (spots (words stretch))))
   -- crates/isa/src/decode.rt

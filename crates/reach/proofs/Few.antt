@@ -18,7 +18,7 @@ use Rattle.vliw.specs.Schedule.{Reach}
 use Rattle.isa.specs.Program.{following, operationsAt}
 use Rattle.isa.specs.Touch.{nextsBy, nexts}
 use Rattle.isa.specs.declared.Way.{Way}
-use Rattle.isa.specs.declared.Way.the-variants.{Along, Stop, Goto, Branch}
+use Rattle.isa.specs.declared.Way.the-variants.{Along, Stop, Goto, Branch, Call, Return}
 use Rattle.isa.specs.declared.Op.{Op}
 use Rattle.reach.specs.Nexts.{nextsAt}
 use Rattle.reach.specs.Near.{Near, placeAt, stepsAt, Ordered}
@@ -105,6 +105,8 @@ by-way Along f others h = h
 by-way Stop f others h = zero-le
 by-way (Goto t) f others h = omega arith
 by-way (Branch v t) f others h = omega arith
+by-way (Call t) f others h = omega arith
+by-way Return f others h = zero-le
 
 at-most-two : (f : ℕ) (os : List Op) → length (nexts f os) ≤ 2
 at-most-two f [] = omega arith

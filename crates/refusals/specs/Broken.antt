@@ -23,7 +23,7 @@ abbrev pub badMemoryLength : List ℕ → Bool
 badMemoryLength bytes = ltb 65536 (length bytes)
 
 abbrev pub badStateLength : List ℕ → Bool
-badStateLength bytes = not (eqb (length bytes) 2884)
+badStateLength bytes = not (eqb (length bytes) 2888)
 
 abbrev pub badRoomLength : List ℕ → Bool
 badRoomLength bytes = not (eqb (length bytes) 12)
@@ -74,7 +74,8 @@ tooWideAt table program i = isStart program i && tooWide table (instructionAt pr
 unfoldable pub twoWritesAt : List ℕ → ℕ → Bool
 twoWritesAt program i = isStart program i && repeats (destinations (operationsAt program i))
 
--- 8: "target is no instruction's first syllable; stop has company (a nop too); the last instruction has neither goto nor stop"
+-- 8: "target is no instruction's first syllable; stop has company (a nop too); the last instruction has neither goto nor stop"; by order 1
+-- "call's target and return's company .. and the last instruction may also be a return, but not a call"
 abbrev pub misses : (ℕ → Bool) → Found → Bool
 misses starts Nothing = false
 misses starts (At target) = not (starts (target .0))

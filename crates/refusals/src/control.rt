@@ -1,4 +1,4 @@
-// Refusal 8: targets, stops and the last instruction, the lowest place first.
+// Refusal 8: targets, company and the last instruction, the lowest place first.
 ghost use mathlib.Core.Path.{_≡_};
 ghost use mathlib.Core.Bool.{true, not, _||_, _&&_};
 ghost use Prim.Native.Nat.{_<_};
@@ -76,7 +76,7 @@ fn runs_out(program: &[u8], at: Place, last: Place) -> bool
     at.0 == last.0 && !any_leaves(cut(program, last))
 }
 
-// A target is no start, or a stop has company. What is not control has neither.
+// A target is no start, or what is to stand alone has company. What is not control has neither.
 fn strays(program: &[u8], x: Spot) -> bool
     ensures { λ r. ⌜ (let w = wayOf (x .syllable) in r ≡ (misses (isStart (words (now (program .entry)))) (targetOf w) || (solitary w && not (alone x)))) ⌝ }
 {
@@ -96,7 +96,7 @@ fn is_bad_control(program: &[u8], at: Place, x: Spot, last: Place) -> bool
     strays(program, x) || runs_out(program, at, last)
 }
 
-// 8: a target is no start, a stop has company, or the last instruction has neither goto nor stop.
+// 8: a target is no start, a stop or a return has company, or the last instruction has neither goto, stop nor return.
 pub fn bad_control(program: &[u8]) -> Found
     requires { ⌜ 0 < length (words (now program)) ⌝ }
     ensures { λ r. ⌜ r ≡ lowest (badControlAt (words (now (program .entry)))) (length (words (now (program .entry)))) ⌝ }

@@ -3,34 +3,38 @@ use isa::Count;
 use isa::Delays;
 use isa::Place;
 use isa::Table;
+use isa::program::is_start;
 use machine::State;
 use ticks::enter;
+use ticks::free_from;
 use ticks::leave;
+use turn::Link;
 use turn::Stepped;
 use turn::step;
 use vliw::Ending;
 ghost use mathlib.Core.Path.{_≡_};
 ghost use mathlib.Core.Bool.{true, false};
-ghost use Prim.Native.Nat.{_<_};
+ghost use Prim.Native.Nat.{_^_, _<_};
 ghost use Rattle.word.specs.Bytes.{words};
 ghost use Rattle.word.specs.Lists.{anyBelow};
 ghost use Rattle.vliw.specs.Run.{run};
 ghost use Rattle.vliw.specs.Cell.{at};
 ghost use Rattle.vliw.specs.Machine.{inOrder, step};
 ghost use Rattle.isa.specs.Program.{isStart};
-ghost use Rattle.memory.specs.Memory.{store};
+ghost use Rattle.machine.specs.Link.{memoryOf, change};
 ghost use Rattle.machine.specs.Instruction.{instructionOf};
 ghost use Rattle.machine.specs.State.{registersOf, Sized};
 ghost use Rattle.machine.specs.Valid.{badRegister};
 ghost use Rattle.ticks.specs.Ticks.{views};
-ghost use Rattle.turn.specs.Turn.{situationAt, Runs, Running, Room};
+ghost use Rattle.turn.specs.Turn.{situationAt, beside, Runs, Running, Room};
 ghost use Rattle.run.specs.Loop.{Finished, Returned, leftAt};
 
-// How a run ended, after how many instructions, and where.
+// How a run ended, after how many instructions, where, and with which link.
 pub struct Ended {
     pub ending: Ending,
     pub count: Count,
     pub place: Place,
+    pub link: Link,
 }
 
 // What a run returns: how it ended, how many instructions it executed, and the state that it left.
@@ -47,7 +51,9 @@ fn run_all(
     landing: &[u8],
     delays: Delays,
     n: Count,
+    free: Count,
     place: Place,
+    link: Link,
     value: &mut [u32; 288],
     old: &mut [u32; 288],
     ready: &mut [u64; 288],
@@ -60,16 +66,18 @@ fn run_all(
     sizes: &mut [u32; 32],
 ) -> Ended
     requires { ⌜ Runs delays (words (now program)) ⌝ }
-    requires { ⌜ Running 0 (words (now program)) (place .0) (now value) (now old) (now ready) (now land) ⌝ }
+    requires { ⌜ Running 0 (free .0) (words (now program)) (place .0) link (now value) (now old) (now ready) (now land) ⌝ }
     requires { ⌜ Room (now reg) (now val) (now del) (now offsets) (now contents) (now sizes) ⌝ }
     requires { ⌜ n .0 < 4294967296 ⌝ }
     ensures { λ r. ⌜ Finished delays (words (now (program .entry))) (now (landing .entry)) (n .0)
-        (situationAt (place .0) (views 0 (now (value .entry)) (now (old .entry)) (now (ready .entry)) (now (land .entry))) (now (memory .entry)) (now (landing .entry)) 0)
+        (situationAt (place .0) (views 0 (now (value .entry)) (now (old .entry)) (now (ready .entry)) (now (land .entry))) (beside (now (memory .entry)) link) (now (landing .entry)) 0)
         r (now (value .exit)) (now (old .exit)) (now (ready .exit)) (now (land .exit)) (now (memory .exit)) ⌝ }
 {
     let mut done = Count(0);
     let mut at = place;
     let mut used: usize = 0;
+    let mut until = free;
+    let mut linked = link;
     while done.0 < n.0 {
         let r = step(
             program,
@@ -77,8 +85,10 @@ fn run_all(
             landing,
             delays,
             done,
+            until,
             at,
             used,
+            linked,
             value,
             old,
             ready,
@@ -96,11 +106,14 @@ fn run_all(
                     ending,
                     count: done,
                     place: at,
+                    link: linked,
                 };
             }
-            Stepped::On(next, taken) => {
+            Stepped::On(next, taken, later, after) => {
                 at = next;
                 used += taken;
+                until = later;
+                linked = after;
             }
         }
         done = Count(done.0 + 1);
@@ -109,6 +122,7 @@ fn run_all(
         ending: Ending::Paused,
         count: done,
         place: at,
+        link: linked,
     }
 }
 
@@ -137,11 +151,11 @@ pub fn run(
     requires { ⌜ Sized s ⌝ }
     requires { ⌜ isStart (words (now program)) (s .place .0) ≡ true ⌝ }
     requires { ⌜ anyBelow (λ r. badRegister r (at (registersOf s) r)) 288 ≡ false ⌝ }
-    requires { ⌜ n .0 < 4294967296 ⌝ }
-    ensures start { λ r. ⌜ isStart (words (now (program .entry))) (r .state .place .0) ≡ true ⌝ }
+    requires { ⌜ (n .0 < 4294967296) × (s .link .0 < 2 ^ 32) ⌝ }
+    ensures start { λ r. ⌜ (isStart (words (now (program .entry))) (r .state .place .0) ≡ true) × (r .state .link .0 < 2 ^ 32) ⌝ }
     ensures is { λ r. ⌜ Returned
-        (run (step store (instructionOf (table .delays) (words (now (program .entry))))) (n .0)
-        (record { place = s .place .0; registers = registersOf s; memory = now (memory .entry); landing = now (landing .entry); orders = inOrder }))
+        (run (step change (instructionOf (table .delays) (words (now (program .entry))))) (n .0)
+        (record { place = s .place .0; registers = registersOf s; memory = memoryOf (now (memory .entry)) (s .link .0); landing = now (landing .entry); orders = inOrder }))
         r (now (memory .exit)) ⌝ }
 {
     let mut value = [0u32; 288];
@@ -149,6 +163,11 @@ pub fn run(
     let mut ready = [0u64; 288];
     let mut land = [0u64; 288];
     enter(s, &mut value, &mut old, &mut ready, &mut land);
+    let place = s.link;
+    let link = Link {
+        place,
+        starts: is_start(program, place),
+    };
     let mut reg = [0u32; 64];
     let mut val = [0u32; 64];
     let mut del = [0u64; 64];
@@ -161,7 +180,9 @@ pub fn run(
         landing,
         table.delays,
         n,
+        free_from(&ready),
         s.place,
+        link,
         &mut value,
         &mut old,
         &mut ready,
@@ -175,8 +196,9 @@ pub fn run(
     );
     let ending = r.ending;
     let count = r.count;
+    let last = r.link;
     let t = left_at(ending, count);
-    let state = leave(&value, &old, &ready, &land, t, r.place);
+    let state = leave(&value, &old, &ready, &land, t, r.place, last.place);
     Left {
         ending,
         count,

@@ -26,7 +26,7 @@ use Rattle.loader.specs.Answer.{answer, answered, roomWith}
 use Rattle.loader.specs.declared.Loaded.the-variants.{Good}
 use Rattle.schedule.specs.Rule.{Says}
 use Rattle.schedule.specs.declared.Verdict.the-variants as verdict
-use Rattle.memory.specs.Memory.{Store}
+use Rattle.machine.specs.Link.{Memory, Change}
 use Rattle.machine.specs.Instruction.{acts}
 use Rattle.machine.specs.Image.{registersIn}
 use Rattle.machine.specs.Valid.{badState}
@@ -108,11 +108,11 @@ taken-word =
 -- ---- it runs
 
 -- how it ended, count and place, memory, register 3 and register 4 of cluster 1
-record Ends (e : Ending) (n i : ℕ) (m : List ℕ) (x y : ℕ) (r : Ran (Situation (List ℕ) Store)) : Type 0 where
+record Ends (e : Ending) (n i : ℕ) (m : List ℕ) (x y : ℕ) (r : Ran (Situation Memory Change)) : Type 0 where
   ending : r .ending ≡ e
   count : r .count ≡ n
   place : r .state .place ≡ i
-  memory : r .state .memory ≡ m
+  memory : r .state .memory .bytes ≡ m
   product : landed (at (r .state .registers) 3) ≡ x
   square : landed (at (r .state .registers) 68) ≡ y
 

@@ -15,28 +15,29 @@ use Rattle.isa.specs.Syllable.{formatOf}
 use Rattle.isa.specs.Control.{wayOf}
 use Rattle.isa.specs.Decode.{decode}
 use Rattle.isa.specs.Program.{isStart}
+use Rattle.isa.specs.Touch.{everyRegister}
 use Rattle.tables.specs.Table.{badTable, tableOf}
 use Rattle.zero.specs.Zero.{badBits}
 use Rattle.refusals.specs.Broken.{noEndAt, badBitsAt, badClusterAt, tooWideAt, twoWritesAt, badControlAt}
 use Rattle.loader.specs.Load.{testedBy, loadedWith}
 use Rattle.loader.specs.Answer.{answer, roomWith}
 use Rattle.loader.specs.declared.Loaded.the-variants.{Good}
-use Rattle.memory.specs.Memory.{Store, store}
+use Rattle.machine.specs.Link.{Memory, Change, memoryOf, change}
 use Rattle.machine.specs.Instruction.{acts, instructionOf}
-use Rattle.machine.specs.Image.{placeIn, registersIn}
+use Rattle.machine.specs.Image.{placeIn, registersIn, linkIn}
 use Rattle.call.specs.Run.{Outcome, runOutcome}
-use Rattle.demands.specs.Calls.{withLimit}
+use Rattle.demands.specs.Calls.{Lent, withLimit}
 use Rattle.demands.proofs.Taken.{found, Taken}
 use Rattle.samples.specs.Wrong.{table, program, room}
-use Rattle.samples.specs.WrongRun.{zeros, calling, example, adding, comparing, inventsCount, Runs, WrongRun}
-use Rattle.samples.proofs.Left.{zero-image, zeros-valid, zeros-bytes, number-left, room-left, register-left}
+use Rattle.samples.specs.WrongRun.{zeros, calling, example, adding, comparing, visiting, inventsCount, Runs, WrongRun}
+use Rattle.samples.proofs.Left.{zero-image, zero-link, zeros-valid, zeros-bytes, number-left, room-left, place-left, link-left, register-left}
 use Rattle.samples.proofs.Wrongs.{never-same}
 
 -- ---- the calls are taken
 
-good : (found (example 16) ≡ Good) × (found adding ≡ Good) × (found (comparing []) ≡ Good)
+good : (found (example 16) ≡ Good) × (found adding ≡ Good) × (found (comparing []) ≡ Good) × (found visiting ≡ Good)
 unfolding loadedWith testedBy noEndAt badBitsAt badClusterAt tooWideAt twoWritesAt badControlAt badTable tableOf badBits wayOf formatOf decode
-good = (refl, refl, refl)
+good = (refl, refl, refl, refl)
 
 taken : (p landing : List ℕ) (n : ℕ) → found (calling p landing n) ≡ Good → isStart (words p) (placeIn zeros) ≡ true → Taken (calling p landing n)
 taken p landing n e start = record { good = e; valid = zeros-valid (words p) start }
@@ -51,12 +52,12 @@ held : ℕ → Outcome → ℕ
 held r o = at (registersIn (o .state)) r .value
 
 module _ (p landing : List ℕ) (n : ℕ) where
-  abbrev ranFrom : Registers → Ran (Situation (List ℕ) Store)
+  abbrev ranFrom : Registers → Ran (Situation Memory Change)
   ranFrom l =
-      run (step store (instructionOf (tableOf table .delays) (words p))) n
-      (record { place = placeIn zeros; registers = l; memory = []; landing = landing; orders = inOrder })
+      run (step change (instructionOf (tableOf table .delays) (words p))) n
+      (record { place = placeIn zeros; registers = l; memory = memoryOf [] (linkIn zeros); landing = landing; orders = inOrder })
 
-  abbrev ran : Ran (Situation (List ℕ) Store)
+  abbrev ran : Ran (Situation Memory Change)
   ran = ranFrom (replicate 288 still)
 
   module _ (t : Taken (calling p landing n)) where
@@ -97,6 +98,23 @@ compared = (refl, refl)
 
 branched : (landing : List ℕ) → held 256 (runOutcome (comparing landing)) ≡ at (ran comparison landing 1 .state .registers) 256 .value
 branched landing = held-is comparison landing 1 (taken comparison landing 1 (good .2) refl) 256
+
+-- a call sets the link to 1, and a return goes there
+visited : (let s = ran (visiting .program) [] 2 .state in (s .memory .link ≡ 1) × (s .place ≡ 1))
+unfolding acts formatOf decode tableOf everyRegister wayOf
+visited = (refl, refl)
+
+lent : Lent visiting
+lent = record { state = zeros-bytes; memory = λ i. omega arith }
+
+taken-visiting : Taken visiting
+taken-visiting = taken (visiting .program) [] 2 (good .3) refl
+
+linked : linkIn (runOutcome visiting .state) ≡ 1
+linked = link-left visiting taken-visiting lent ∙ ap (λ l. ranFrom (visiting .program) [] 2 l .state .memory .link) zero-image ∙ visited .0
+
+returned : placeIn (runOutcome visiting .state) ≡ 1
+returned = place-left visiting taken-visiting lent ∙ ap (λ l. ranFrom (visiting .program) [] 2 l .state .place) zero-image ∙ visited .1
 
 -- the count in the room
 counted : Outcome → ℕ
@@ -139,6 +157,10 @@ wrong-run =
           (λ c. ap (λ (image : List ℕ). at (registersIn image) 3 .value) (h c));
       atOnce = λ e. let h : _≡_ {A = ℕ} 6 0 = sym (added 4294967295 ∙ first .1) ∙ ap (held 4) e ∙ added 1 ∙ first .0 in omega arith;
       invented = λ e. let h : _≡_ {A = ℕ} 16 1 = sym invented ∙ ap counted e ∙ one in omega arith;
+      unlinked = λ f h e.
+          let k : _≡_ {A = ℕ} 0 1 = sym zero-link ∙ sym (h visiting) ∙ ap (λ o. linkIn (o .state)) e ∙ linked in
+          omega arith;
+      unreturned = λ o h e. let k : _≡_ {A = ℕ} 3 1 = sym h ∙ ap (λ o. placeIn (o .state)) e ∙ returned in omega arith;
       unlanded = λ e.
           let h : _≡_ {A = ℕ} 0 1 = sym (branched [] ∙ compared .1) ∙ ap (held 256) e ∙ branched (0 ∷ []) ∙ compared .0 in
           omega arith;

@@ -31,7 +31,7 @@ swap = swapping 0x33333333 0x44444444
 
 given : registersIn (swap .state) ≡ cellsFrom (swap .state) 0 5 ++ replicate 283 still
 unfolding swap registersIn
-given = ap (λ l. cellsFrom (swap .state) 0 5 ++ l) (zero-cells (swap .state) 54 2830 refl 5 283 (omega arith))
+given = ap (λ l. cellsFrom (swap .state) 0 5 ++ l) (zero-cells (swap .state) 54 2834 refl 5 283 (omega arith))
 
 valid : badState (words (swap .program)) (swap .state) ≡ false
 unfolding swap badState

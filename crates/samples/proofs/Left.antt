@@ -11,7 +11,7 @@ use Rattle.vliw.specs.Run.{numberOf}
 use Rattle.vliw.specs.Cell.{Registers, still, at}
 use Rattle.isa.specs.Program.{isStart}
 use Rattle.loader.specs.Answer.{answer, roomWith}
-use Rattle.machine.specs.Image.{imageOffset, placeIn, cellsFrom, registersIn}
+use Rattle.machine.specs.Image.{imageOffset, placeIn, linkIn, cellsFrom, registersIn}
 use Rattle.machine.specs.Valid.{badState}
 use Rattle.call.specs.Run.{Call, Outcome, ranOf, runOutcome}
 use Rattle.demands.specs.Calls.{Lent}
@@ -64,14 +64,17 @@ module _ (image : List ℕ) (skip size : ℕ) (rest : drop skip image ≡ replic
 
 pub zero-image : registersIn zeros ≡ replicate 288 still
 unfolding registersIn
-zero-image = zero-cells zeros 0 2884 refl 0 288 (omega arith)
+zero-image = zero-cells zeros 0 2888 refl 0 288 (omega arith)
+
+pub zero-link : linkIn zeros ≡ 0
+zero-link = zero-held 4 (imageOffset 288) 2888
 
 pub zeros-valid : (p : List ℕ) → isStart p (placeIn zeros) ≡ true → badState p zeros ≡ false
 unfolding badState
 zeros-valid p start = rw (zero-image, start) refl
 
 pub zeros-bytes : AreBytes zeros
-zeros-bytes i = rw (all-same {A = ℕ} 0 2884 i) (omega arith)
+zeros-bytes i = rw (all-same {A = ℕ} 0 2888 i) (omega arith)
 
 module _ (c : Call) (t : Taken c) where
   pub number-left : runOutcome c .result ≡ numberOf (ranOf c .ending)
@@ -80,8 +83,14 @@ module _ (c : Call) (t : Taken c) where
   pub room-left : runOutcome c .room ≡ (let r = ranOf c in roomWith (answer (numberOf (r .ending)) (r .count) (r .state .place)) (c .room))
   room-left = ap (λ (o : Outcome). o .room) (taken-runs c t)
 
-  pub memory-left : runOutcome c .memory ≡ ranOf c .state .memory
+  pub memory-left : runOutcome c .memory ≡ ranOf c .state .memory .bytes
   memory-left = ap (λ (o : Outcome). o .memory) (taken-runs c t)
+
+  pub place-left : Lent c → placeIn (runOutcome c .state) ≡ ranOf c .state .place
+  place-left l = ap (λ (o : Outcome). placeIn (o .state)) (taken-runs c t) ∙ left-held c t l .place
+
+  pub link-left : Lent c → linkIn (runOutcome c .state) ≡ ranOf c .state .memory .link
+  link-left l = ap (λ (o : Outcome). linkIn (o .state)) (taken-runs c t) ∙ left-held c t l .link
 
   pub register-left : Lent c → (r : ℕ) → at (registersIn (runOutcome c .state)) r ≡ at (ranOf c .state .registers) r
   register-left l r =

@@ -7,13 +7,14 @@ use lib.ListN.{replicate}
 use Rattle.word.specs.Choice.{pick}
 use Rattle.word.specs.Bytes.{wordAt}
 use Rattle.loader.specs.Answer.{answer, roomWith}
+use Rattle.machine.specs.Image.{placeIn, linkIn}
 use Rattle.call.specs.Run.{Call, Outcome, runOutcome}
 use Rattle.demands.specs.Calls.{withLimit, withLanding, Refuses}
 use Rattle.samples.specs.Wrong.{NeverSame, table, program, room}
 
 -- a state of zeros
 abbrev pub zeros : List ℕ
-zeros = replicate 2884 0
+zeros = replicate 2888 0
 
 -- n instructions of a program from there, with these landing bytes and no memory
 abbrev pub calling : List ℕ → List ℕ → ℕ → Call
@@ -31,6 +32,10 @@ adding = calling (0xC1 ∷ 0x0C ∷ 0x08 ∷ 0x05 ∷ 0xC1 ∷ 0x10 ∷ 0x08 ∷
 -- cmpeq to branch register 0 of registers 0 and 0, with CMPB 2; stop
 abbrev pub comparing : List ℕ → Call
 comparing landing = calling (0xE8 ∷ 0x00 ∷ 0x00 ∷ 0x00 ∷ 0xC0 ∷ 0x04 ∷ 0x00 ∷ 0x00 ∷ []) landing 1
+
+-- call 2; stop; return; stop
+abbrev pub visiting : Call
+visiting = calling (0xC0 ∷ 0x08 ∷ 0x00 ∷ 0x02 ∷ 0xC0 ∷ 0x04 ∷ 0x00 ∷ 0x00 ∷ 0xC0 ∷ 0x0C ∷ 0x00 ∷ 0x00 ∷ 0xC0 ∷ 0x04 ∷ 0x00 ∷ 0x00 ∷ []) [] 2
 
 -- all of the effect in the first instruction, idle after, with the right answer at each
 abbrev pub finishesFirst : Call → Outcome
@@ -64,4 +69,7 @@ pub record WrongRun : Type 0 where
   pub fixed : NeverSame Runs (λ o. o .state)
   pub atOnce : Runs adding (finishesFirst adding) → ⊥
   pub invented : Runs (example 16) (inventsCount (example 16)) → ⊥
+  -- it leaves the link as given, or it goes on after a return at what follows it
+  pub unlinked : (f : Call → Outcome) → ((c : Call) → linkIn (f c .state) ≡ linkIn (c .state)) → Runs visiting (f visiting) → ⊥
+  pub unreturned : (o : Outcome) → placeIn (o .state) ≡ 3 → Runs visiting o → ⊥
   pub unlanded : Runs (comparing (0 ∷ [])) (ignoresLanding (comparing (0 ∷ []))) → ⊥

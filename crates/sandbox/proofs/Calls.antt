@@ -16,9 +16,9 @@ use Rattle.loader.specs.Answer.{roomWith}
 use Rattle.loader.specs.declared.Answer.{Answer}
 use Rattle.loader.specs.declared.Loaded.{Loaded}
 use Rattle.loader.specs.declared.Loaded.the-variants.{Good}
-use Rattle.memory.specs.Memory.{Store, store}
+use Rattle.machine.specs.Link.{Memory, Change, memoryOf, change}
 use Rattle.machine.specs.Instruction.{instructionOf}
-use Rattle.machine.specs.Image.{placeIn, registersIn, imageOf}
+use Rattle.machine.specs.Image.{placeIn, registersIn, linkIn, imageOf}
 use Rattle.machine.specs.State.{registersOf}
 use Rattle.machine.specs.Valid.{badRegister, badState}
 use Rattle.call.specs.Reply.{replyAnswer}
@@ -55,19 +55,19 @@ answered-run c {d} {a} done answer given =
     ∙ ap (λ (x : Done). let b = replyAnswer (x .reply) in let o : Outcome = record { result = b .number; state = x .state; memory = x .memory; room = roomWith b (c .room) } in o) done
 
 -- what a run returned, from the table and the state as they were read
-pub returned-of : (c : Call) {t : Table} {place : ℕ} {l : Registers} {r : Left} {m : List ℕ} → t ≡ tableOf (c .table) → place ≡ placeIn (c .state) → l ≡ registersIn (c .state)
-    → Returned (run (step store (instructionOf (t .delays) (words (c .program)))) (c .n) (record { place = place; registers = l; memory = c .memory; landing = c .landing; orders = inOrder })) r m
+pub returned-of : (c : Call) {t : Table} {place link : ℕ} {l : Registers} {r : Left} {m : List ℕ} → t ≡ tableOf (c .table) → place ≡ placeIn (c .state) → l ≡ registersIn (c .state) → link ≡ linkIn (c .state)
+    → Returned (run (step change (instructionOf (t .delays) (words (c .program)))) (c .n) (record { place = place; registers = l; memory = memoryOf (c .memory) link; landing = c .landing; orders = inOrder })) r m
     → Returned (ranOf c) r m
-returned-of c p q e h = rw (p, q, e) at h
+returned-of c p q e k h = rw (p, q, e, k) at h
 
 -- what a run returned, with its state written
-pub returned-ends : {o : Ran (Situation (List ℕ) Store)} {r : Left} {m image : List ℕ} → Returned o r m
-    → image ≡ imageOf (r .state .place .0) (registersOf (r .state))
+pub returned-ends : {o : Ran (Situation Memory Change)} {r : Left} {m image : List ℕ} → Returned o r m
+    → image ≡ imageOf (r .state .place .0) (registersOf (r .state)) (r .state .link .0)
     → (let d : Done = record { reply = Ended (r .ending) (r .count) (r .state .place); state = image; memory = m } in d ≡ ended o)
 returned-ends r e =
     λ i.
     record {
       reply = Ended (sym (r .ending) i) (record { 0 = sym (r .count) i }) (record { 0 = sym (r .place) i });
-      state = (e ∙ λ j. imageOf (sym (r .place) j) (sym (r .registers) j)) i;
+      state = (e ∙ λ j. imageOf (sym (r .place) j) (sym (r .registers) j) (sym (r .link) j)) i;
       memory = sym (r .memory) i;
     }

@@ -31,7 +31,7 @@ fn sizes(program: &[u8], memory: &[u8], state: &[u8], room: &[u8]) -> Loaded
     if 65536 < memory.len() {
         return Loaded::Refused(Refusal::MemoryLength);
     }
-    if state.len() != 2884 {
+    if state.len() != 2888 {
         return Loaded::Refused(Refusal::StateLength);
     }
     if room.len() != 12 {
@@ -50,7 +50,7 @@ fn ran(
     n: u32,
 ) -> Reply
     requires { ⌜ Bounds (tableOf (now table)) × Passed (tableOf (now table)) (words (now program)) ⌝ }
-    requires { ⌜ (length (now program) ≤ 16384) × (length (now state) ≡ 2884) ⌝ }
+    requires { ⌜ (length (now program) ≤ 16384) × (length (now state) ≡ 2888) ⌝ }
     ensures { λ r. ⌜ ((room : List ℕ) → record { reply = r; state = now (state .exit); memory = now (memory .exit) } ≡ doneBy Good (record {
       table = now (table .entry);
       program = now (program .entry);

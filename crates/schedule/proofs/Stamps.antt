@@ -1,16 +1,18 @@
 -- Laws of stamps: how they grow, and what they say of the instruction that left them last.
 use mathlib.Core.Path.{_≡_, refl, sym, _∙_}
+use mathlib.Core.Logic.{⊎-elim}
 use mathlib.Core.Bool.{Bool, true, false, _||_}
 use mathlib.Core.List.{List, _++_}
-use Prim.Native.Nat.{ℕ, zero, suc, _<_}
+use Prim.Native.Nat.{ℕ, zero, suc, _+_, _<_}
+use native.Mathlib.Nat.{eq-or-lt-of-le}
 use native.Mathlib.Omega.{arith}
-use lib.Dec.{eqb}
+use lib.Dec.{eqb, ltb}
 use lib.ListN.{length, getD, set, replicate, length-set}
 use lib.Seq.{getD-set-same, getD-set-other}
-use borrow.Author.Tests.{eqb-true, eqb-false, eq-eqb, ne-eqb}
+use borrow.Author.Tests.{eqb-true, eqb-false, eq-eqb, ne-eqb, ltb-true, lt-ltb}
 use Rattle.word.specs.Choice.{pick}
 use Rattle.word.specs.Lists.{any, member}
-use Rattle.word.proofs.Choice.{never-both}
+use Rattle.word.proofs.Choice.{bool-same, never-both, or-true, or-right}
 use Rattle.isa.specs.Program.{operationsAt}
 use Rattle.isa.specs.Touch.{reads, destinations}
 use Rattle.schedule.specs.Stamps.{names, Stamped}
@@ -44,6 +46,16 @@ module _ {f : ℕ → Bool} {n : ℕ} {old new : List ℕ} (h : Stamped f n old 
 
   pub stamped-more : {g : ℕ → Bool} {newer : List ℕ} → Stamped g n new newer → Stamped (λ r. f r || g r) n old newer
   stamped-more {g} k = record { size = k .size; each = λ r. rw (k .each r, h .each r) (pick-or (f r) (g r) n (getD old r 0)) }
+
+-- those below one more
+below-more : (q r : ℕ) → ltb q r || eqb q r ≡ ltb q (r + 1)
+below-more q r =
+    bool-same _ _
+    (λ h. ⊎-elim (λ e. lt-ltb q (r + 1) (omega (arith, ltb-true q r e))) (λ e. lt-ltb q (r + 1) (omega (arith, eqb-true q r e))) (or-true (ltb q r) (eqb q r) h))
+    (λ h. ⊎-elim (λ (e : q ≡ r). or-right (ltb q r) (eq-eqb q r e)) (λ b. rw (lt-ltb q r b)) (eq-or-lt-of-le (omega (arith, ltb-true q (r + 1) h))))
+
+pub stamped-below : {n : ℕ} {old new : List ℕ} (r : ℕ) → r < 288 → Stamped (λ q. ltb q r) n old new → Stamped (λ q. ltb q (r + 1)) n old (set new r n)
+stamped-below r b h = let more = stamped-one h r b in record { size = more .size; each = λ q. rw (← below-more q r) (more .each q) }
 
 -- ---- what a stamp says
 

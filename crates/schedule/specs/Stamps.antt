@@ -1,16 +1,19 @@
 -- Private to the search, nobody has to believe it: the registers that an operation names, and the stamps on them.
 use mathlib.Core.Path.{_≡_}
-use mathlib.Core.Bool.{Bool, _||_}
+use mathlib.Core.Bool.{Bool, _||_, _&&_}
 use mathlib.Core.List.{List}
 use Prim.Native.Nat.{ℕ, _<_}
-use lib.Dec.{eqb}
+use lib.Dec.{eqb, ltb}
 use lib.ListN.{length, getD}
 use Rattle.word.specs.Choice.{pick}
+use Rattle.isa.specs.Control.{readsEvery}
 use Rattle.isa.specs.declared.Op.{Op}
 
 -- an operation reads or writes a register
 abbrev pub names : ℕ → Op → Bool
-names r o = eqb r (o .s1) || eqb r (o .s2) || eqb r (o .b) || eqb r (o .stored) || eqb r (o .t) || eqb r (o .carry)
+names r o =
+    (readsEvery (o .way) && ltb r 288)
+    || eqb r (o .s1) || eqb r (o .s2) || eqb r (o .b) || eqb r (o .stored) || eqb r (o .t) || eqb r (o .carry)
 
 pub record Registers (o : Op) : Type 0 where
   pub s1 : o .s1 < 288

@@ -1,27 +1,46 @@
 // Which registers an instruction reads or writes: it leaves its stamp on them, one more than its place.
 ghost use mathlib.Core.Path.{_≡_};
+ghost use mathlib.Core.Bool.{_&&_};
 ghost use mathlib.Core.List.{map};
 ghost use Prim.Native.Nat.{suc, _^_, _<_};
-ghost use lib.Dec.{eqb};
+ghost use lib.Dec.{eqb, ltb};
 ghost use lib.ListN.{length, getD};
 ghost use Rattle.word.specs.Bytes.{words};
 ghost use Rattle.word.specs.Lists.{any};
+ghost use Rattle.isa.specs.Control.{readsEvery};
 ghost use Rattle.isa.specs.Program.{spots, operation};
 ghost use Rattle.schedule.specs.Decodable.{Decodable};
 ghost use Rattle.schedule.specs.Stamps.{names, Registers, Stamped};
 use isa::Op;
 use isa::Place;
 use isa::Slot;
+use isa::Way;
+use isa::control::reads_every;
 use isa::stretch::before_all;
 use isa::stretch::next_spot;
 use isa::stretch::operation;
 use isa::stretch::syllable;
+
+// Call and return read every register.
+fn stamp_every(w: Way, n: usize, stamps: &mut [usize; 288])
+    requires { ⌜ length (now stamps) ≡ 288 ⌝ }
+    ensures { λ _. ⌜ Stamped (λ r. readsEvery w && ltb r 288) n (now (stamps .entry)) (now (stamps .exit)) ⌝ }
+{
+    if !reads_every(w) {
+        return;
+    }
+    for r in 0..288 {
+        stamps[r] = n;
+    }
+}
 
 fn stamp(o: Op, n: usize, stamps: &mut [usize; 288])
     requires { ⌜ Registers o ⌝ }
     requires { ⌜ length (now stamps) ≡ 288 ⌝ }
     ensures { λ _. ⌜ Stamped (λ r. names r o) n (now (stamps .entry)) (now (stamps .exit)) ⌝ }
 {
+    let way = o.way;
+    stamp_every(way, n, stamps);
     stamps[o.s1 as usize] = n;
     stamps[o.s2 as usize] = n;
     stamps[o.b as usize] = n;

@@ -68,11 +68,11 @@ filled n p h =
 
 -- the call of a run, as its arrays hold it
 pub as-call : (table program : List ℕ) (memory n : ℕ) → memory ≤ 16384
-    → (let c : Call = record { table = table; program = program; state = zeros 2884; memory = take (memory - 0) (zeros 16384); landing = []; n = n; room = zeros 12 } in
+    → (let c : Call = record { table = table; program = program; state = zeros 2888; memory = take (memory - 0) (zeros 16384); landing = []; n = n; room = zeros 12 } in
     c ≡ callOf (record { table = table; memory = memory; n = n; program = program }))
 as-call table program memory n h =
     let e : take (memory - 0) (zeros 16384) ≡ zeros memory = ap (λ (k : ℕ). take k (zeros 16384)) (sub-zero memory) ∙ take-zeros memory 16384 h in
-    λ k. record { table = table; program = program; state = zeros 2884; memory = e k; landing = []; n = n; room = zeros 12 }
+    λ k. record { table = table; program = program; state = zeros 2888; memory = e k; landing = []; n = n; room = zeros 12 }
 
 pub shown-as : (text bytes : List ℕ) (n : ℕ) → Put (zeros 4341) bytes n (printed text)
     → (let s : Shown = record { bytes = bytes; length = n } in s ≡ shownOf text)

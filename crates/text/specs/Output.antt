@@ -44,7 +44,7 @@ callOf s =
     record {
       table = s .table;
       program = s .program;
-      state = replicate 2884 0;
+      state = replicate 2888 0;
       memory = replicate (s .memory) 0;
       landing = [];
       n = s .n;

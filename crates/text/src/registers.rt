@@ -12,7 +12,7 @@ use word::number::word_at;
 
 // The value of register `r` of all 288 once everything has landed.
 fn landed_at(image: &[u8], r: usize) -> u32
-    requires { ⌜ (length (now image) ≡ 2884) × (r < 288) ⌝ }
+    requires { ⌜ (length (now image) ≡ 2888) × (r < 288) ⌝ }
     ensures { λ v. ⌜ v ≡ landed (cellIn (now (image .entry)) r) ⌝ }
 {
     let at = offset(r);
@@ -37,7 +37,7 @@ fn index(c: usize, r: usize) -> usize
 
 // The line of register `r` of cluster `c`, at `at`: where the next one goes.
 fn put_register(out: &mut [u8], at: usize, image: &[u8], c: usize, r: usize) -> usize
-    requires { ⌜ (at + 15 ≤ length (now out)) × (length (now image) ≡ 2884) × (c < 4) × (r < 72) ⌝ }
+    requires { ⌜ (at + 15 ≤ length (now out)) × (length (now image) ≡ 2888) × (c < 4) × (r < 72) ⌝ }
     ensures { λ next. ⌜ (now (out .exit) ≡ sets (now (out .entry)) at (registerRow c r (landed (cellIn (now (image .entry)) (indexOf c r)))))
         × (next ≡ at + length (registerRow c r (landed (cellIn (now (image .entry)) (indexOf c r))))) × (next ≤ at + 15) ⌝ }
 {
@@ -51,7 +51,7 @@ fn put_register(out: &mut [u8], at: usize, image: &[u8], c: usize, r: usize) -> 
 
 // The lines of cluster `c`.
 fn put_cluster(out: &mut [u8], at: usize, image: &[u8], c: usize) -> usize
-    requires { ⌜ (at + 1080 ≤ length (now out)) × (length (now image) ≡ 2884) × (c < 4) ⌝ }
+    requires { ⌜ (at + 1080 ≤ length (now out)) × (length (now image) ≡ 2888) × (c < 4) ⌝ }
     ensures { λ next. ⌜ (now (out .exit) ≡ sets (now (out .entry)) at (clusterRows (now (image .entry)) c))
         × (next ≡ at + length (clusterRows (now (image .entry)) c)) × (next ≤ at + 1080) ⌝ }
 {
@@ -64,7 +64,7 @@ fn put_cluster(out: &mut [u8], at: usize, image: &[u8], c: usize) -> usize
 
 // The lines of all clusters.
 pub fn put_registers(out: &mut [u8], at: usize, image: &[u8]) -> usize
-    requires { ⌜ (at + 4320 ≤ length (now out)) × (length (now image) ≡ 2884) ⌝ }
+    requires { ⌜ (at + 4320 ≤ length (now out)) × (length (now image) ≡ 2888) ⌝ }
     ensures { λ next. ⌜ (now (out .exit) ≡ sets (now (out .entry)) at (registerRows (now (image .entry))))
         × (next ≡ at + length (registerRows (now (image .entry)))) × (next ≤ at + 4320) ⌝ }
 {

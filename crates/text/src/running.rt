@@ -61,7 +61,7 @@ fn refused(out: &mut [u8], table: &[u8], program: &[u8]) -> usize
 
 // Line 1, and the registers if the run paused or stopped.
 fn ended(out: &mut [u8], number: u32, image: &[u8], room: &[u8]) -> usize
-    requires { ⌜ (length (now out) ≡ 4341) × (length (now image) ≡ 2884) × (length (now room) ≡ 12) ⌝ }
+    requires { ⌜ (length (now out) ≡ 4341) × (length (now image) ≡ 2888) × (length (now room) ≡ 12) ⌝ }
     ensures { λ r. ⌜ Put (now (out .entry)) (now (out .exit)) r
         (printedOf (Runs (record { result = number; state = now (image .entry); memory = []; room = now (room .entry) }))) ⌝ }
 {
@@ -86,7 +86,7 @@ fn ran(out: &mut [u8], table: &[u8], program: &[u8], memory: usize, n: u32) -> u
     ensures { λ r. ⌜ Put (now (out .entry)) (now (out .exit)) r
         (printedOf (Runs (runOutcome (callOf (record { table = now (table .entry); memory = memory; n = n; program = now (program .entry) }))))) ⌝ }
 {
-    let mut image = [0u8; 2884];
+    let mut image = [0u8; 2888];
     let mut bytes = [0u8; 16384];
     let mut room = [0u8; 12];
     let number = vex_run(

@@ -45,6 +45,15 @@ pub record Bank (t : ℕ) (vs os rs ls : List ℕ) : Type 0 where
   pub low : (q : ℕ) → getD ls q 0 ≤ getD rs q 0
   pub soon : (q : ℕ) → getD rs q 0 ≤ t + 7
 
+-- of those that are busy at tick t none is from tick `free` on
+abbrev pub Freed : ℕ → ℕ → List ℕ → Type 0
+Freed t free rs = (q : ℕ) → t < getD rs q 0 → getD rs q 0 ≤ free
+
+-- the later of a tick and those of a list
+abbrev pub latest : ℕ → List ℕ → ℕ
+latest t [] = t
+latest t (r ∷ rs) = latest (pick (ltb t r) r t) rs
+
 -- what validity says of a register and its counts
 pub record Fit (c : Cell) : Type 0 where
   pub low : c .landing ≤ c .busy

@@ -6,12 +6,13 @@ ghost use mathlib.Core.Path.{_≡_};
 ghost use mathlib.Core.List.{_++_, _∷_, []};
 ghost use Prim.Native.Nat.{ℕ, _+_, _-_, _≤_, _<_};
 ghost use lib.Dec.{ltb};
+ghost use Rattle.word.specs.Lists.{anyBelow};
 ghost use lib.ListN.{length, getD, set, drop};
 ghost use lib.Seq.{sets, slice};
 ghost use Rattle.vliw.specs.Cell.{at, landedOf, put, puts, choose};
 ghost use Rattle.vliw.specs.Machine.{writes};
 ghost use Rattle.machine.specs.State.{cells, registersOf, Sized};
-ghost use Rattle.ticks.specs.Ticks.{Sizes, views, valueAt, waitingAt, Bank, Fit, destsIn, valuesIn, Results};
+ghost use Rattle.ticks.specs.Ticks.{Sizes, views, valueAt, waitingAt, Bank, Freed, latest, Fit, destsIn, valuesIn, Results};
 
 // The last result made for register r: its value, unless it is in flight.
 pub fn made(value: &[u32; 288], r: u32) -> u32
@@ -38,6 +39,29 @@ pub fn late(ready: &[u64; 288], r: u32, t: Count) -> bool
     t.0 < ready[r as usize]
 }
 
+// Whether any register is busy. Only a fault can come of going through them: from tick `free` on none is.
+pub fn any_late(ready: &[u64; 288], free: Count, t: Count) -> bool
+    requires { ⌜ Freed (t .0) (free .0) (now ready) ⌝ }
+    ensures { λ b. ⌜ b ≡ anyBelow (λ r. ltb (t .0) (getD (now (ready .entry)) r 0)) 288 ⌝ }
+{
+    if free.0 <= t.0 {
+        return false;
+    }
+    for r in 0..288 {
+        if late(ready, r, t) {
+            return true;
+        }
+    }
+    false
+}
+
+// The later of two ticks.
+fn later(a: Count, b: Count) -> Count
+    ensures { λ r. ⌜ r .0 ≡ latest (a .0) (b .0 ∷ []) ⌝ }
+{
+    if a.0 < b.0 { b } else { a }
+}
+
 // A result v for register r, busy for b more ticks, that lands after l of them.
 fn put_one(
     value: &mut [u32; 288],
@@ -53,6 +77,7 @@ fn put_one(
     requires { ⌜ Bank (t .0) (now value) (now old) (now ready) (now land) ⌝ }
     requires { ⌜ (r < 288) × (l ≤ b) × (b ≤ 7) × (t .0 ≤ 4294967296) ⌝ }
     ensures bank { λ _. ⌜ Bank (t .0) (now (value .exit)) (now (old .exit)) (now (ready .exit)) (now (land .exit)) ⌝ }
+    ensures freed { λ _. ⌜ ((free : ℕ) → (0 < b → t .0 + b ≤ free) → Freed (t .0) free (now (ready .entry)) → Freed (t .0) free (now (ready .exit))) ⌝ }
     ensures is { λ _. ⌜ views (t .0) (now (value .exit)) (now (old .exit)) (now (ready .exit)) (now (land .exit))
         ≡ put (record { reg = r; result = v; busy = b; landing = l })
         (views (t .0) (now (value .entry)) (now (old .entry)) (now (ready .entry)) (now (land .entry))) ⌝ }
@@ -83,7 +108,7 @@ fn chosen(landing: &[u8], i: usize, l: u64) -> u64
     }
 }
 
-// The result v for register r, of delay l, with landing byte i.
+// The result v for register r, of delay l, with landing byte i; and from when on none is busy.
 fn commit_one(
     value: &mut [u32; 288],
     old: &mut [u32; 288],
@@ -94,20 +119,124 @@ fn commit_one(
     l: u64,
     landing: &[u8],
     i: usize,
+    free: Count,
     t: Count,
-)
+) -> Count
     requires { ⌜ Bank (t .0) (now value) (now old) (now ready) (now land) ⌝ }
+    requires { ⌜ Freed (t .0) (free .0) (now ready) ⌝ }
     requires { ⌜ (r < 288) × (0 < l) × (l ≤ 8) × (t .0 ≤ 4294967296) ⌝ }
     ensures bank { λ _. ⌜ Bank (t .0) (now (value .exit)) (now (old .exit)) (now (ready .exit)) (now (land .exit)) ⌝ }
+    ensures freed { λ r. ⌜ Freed (t .0) (r .0) (now (ready .exit)) ⌝ }
     ensures is { λ _. ⌜ views (t .0) (now (value .exit)) (now (old .exit)) (now (ready .exit)) (now (land .exit))
         ≡ put (record { reg = r; result = v; busy = l - 1; landing = choose l (drop i (now (landing .entry))) })
         (views (t .0) (now (value .entry)) (now (old .entry)) (now (ready .entry)) (now (land .entry))) ⌝ }
 {
     let d = chosen(landing, i, l);
     put_one(value, old, ready, land, r, v, l - 1, d, t);
+    later(free, Count(t.0 + (l - 1)))
 }
 
-// The results of an instruction, in order, the first with landing byte `used`.
+// The results of an instruction, in order, the first with landing byte `used`; and from when on none is busy.
+fn commit_with(
+    value: &mut [u32; 288],
+    old: &mut [u32; 288],
+    ready: &mut [u64; 288],
+    land: &mut [u64; 288],
+    reg: &[u32; 64],
+    val: &[u32; 64],
+    del: &[u64; 64],
+    count: usize,
+    landing: &[u8],
+    used: usize,
+    free: Count,
+    t: Count,
+) -> Count
+    requires { ⌜ Bank (t .0) (now value) (now old) (now ready) (now land) ⌝ }
+    requires { ⌜ Freed (t .0) (free .0) (now ready) ⌝ }
+    requires { ⌜ Results (now reg) (now val) (now del) count ⌝ }
+    requires { ⌜ (t .0 ≤ 4294967296) × (used + count < 18446744073709551616) ⌝ }
+    ensures bank { λ _. ⌜ Bank (t .0) (now (value .exit)) (now (old .exit)) (now (ready .exit)) (now (land .exit)) ⌝ }
+    ensures freed { λ r. ⌜ Freed (t .0) (r .0) (now (ready .exit)) ⌝ }
+    ensures is { λ _. ⌜ views (t .0) (now (value .exit)) (now (old .exit)) (now (ready .exit)) (now (land .exit))
+        ≡ puts (writes (destsIn (now (reg .entry)) (now (del .entry)) count) (valuesIn (now (val .entry)) count) (drop used (now (landing .entry))))
+        (views (t .0) (now (value .entry)) (now (old .entry)) (now (ready .entry)) (now (land .entry))) ⌝ }
+{
+    let mut until = free;
+    for k in 0..count {
+        until = commit_one(
+            value,
+            old,
+            ready,
+            land,
+            reg[k],
+            val[k],
+            del[k],
+            landing,
+            used + k,
+            until,
+            t,
+        );
+    }
+    until
+}
+
+// The result v for register r, of delay l, past the end of the landing bytes; and from when on none is busy.
+fn commit_full(
+    value: &mut [u32; 288],
+    old: &mut [u32; 288],
+    ready: &mut [u64; 288],
+    land: &mut [u64; 288],
+    r: u32,
+    v: u32,
+    l: u64,
+    free: Count,
+    t: Count,
+) -> Count
+    requires { ⌜ Bank (t .0) (now value) (now old) (now ready) (now land) ⌝ }
+    requires { ⌜ Freed (t .0) (free .0) (now ready) ⌝ }
+    requires { ⌜ (r < 288) × (0 < l) × (l ≤ 8) × (t .0 ≤ 4294967296) ⌝ }
+    ensures bank { λ _. ⌜ Bank (t .0) (now (value .exit)) (now (old .exit)) (now (ready .exit)) (now (land .exit)) ⌝ }
+    ensures freed { λ r. ⌜ Freed (t .0) (r .0) (now (ready .exit)) ⌝ }
+    ensures is { λ _. ⌜ views (t .0) (now (value .exit)) (now (old .exit)) (now (ready .exit)) (now (land .exit))
+        ≡ put (record { reg = r; result = v; busy = l - 1; landing = l - 1 })
+        (views (t .0) (now (value .entry)) (now (old .entry)) (now (ready .entry)) (now (land .entry))) ⌝ }
+{
+    put_one(value, old, ready, land, r, v, l - 1, l - 1, t);
+    later(free, Count(t.0 + (l - 1)))
+}
+
+// The same past the end of the landing bytes, where none is asked for.
+fn commit_rest(
+    value: &mut [u32; 288],
+    old: &mut [u32; 288],
+    ready: &mut [u64; 288],
+    land: &mut [u64; 288],
+    reg: &[u32; 64],
+    val: &[u32; 64],
+    del: &[u64; 64],
+    count: usize,
+    free: Count,
+    t: Count,
+) -> Count
+    requires { ⌜ Bank (t .0) (now value) (now old) (now ready) (now land) ⌝ }
+    requires { ⌜ Freed (t .0) (free .0) (now ready) ⌝ }
+    requires { ⌜ Results (now reg) (now val) (now del) count ⌝ }
+    requires { ⌜ t .0 ≤ 4294967296 ⌝ }
+    ensures bank { λ _. ⌜ Bank (t .0) (now (value .exit)) (now (old .exit)) (now (ready .exit)) (now (land .exit)) ⌝ }
+    ensures freed { λ r. ⌜ Freed (t .0) (r .0) (now (ready .exit)) ⌝ }
+    ensures is { λ _. ⌜ views (t .0) (now (value .exit)) (now (old .exit)) (now (ready .exit)) (now (land .exit))
+        ≡ puts (writes (destsIn (now (reg .entry)) (now (del .entry)) count) (valuesIn (now (val .entry)) count) [])
+        (views (t .0) (now (value .entry)) (now (old .entry)) (now (ready .entry)) (now (land .entry))) ⌝ }
+{
+    let mut until = free;
+    for k in 0..count {
+        until = commit_full(value, old, ready, land, reg[k], val[k], del[k], until, t);
+    }
+    until
+}
+
+// The results of an instruction, in order, the first with landing byte `used`; and from when on none is busy. Most calls lend few landing
+// bytes or none, so that the others are not asked for one by one.
 pub fn commit(
     value: &mut [u32; 288],
     old: &mut [u32; 288],
@@ -119,30 +248,36 @@ pub fn commit(
     count: usize,
     landing: &[u8],
     used: usize,
+    free: Count,
     t: Count,
-)
+) -> Count
     requires { ⌜ Bank (t .0) (now value) (now old) (now ready) (now land) ⌝ }
+    requires { ⌜ Freed (t .0) (free .0) (now ready) ⌝ }
     requires { ⌜ Results (now reg) (now val) (now del) count ⌝ }
     requires { ⌜ (t .0 ≤ 4294967296) × (used + count < 18446744073709551616) ⌝ }
     ensures bank { λ _. ⌜ Bank (t .0) (now (value .exit)) (now (old .exit)) (now (ready .exit)) (now (land .exit)) ⌝ }
+    ensures freed { λ r. ⌜ Freed (t .0) (r .0) (now (ready .exit)) ⌝ }
     ensures is { λ _. ⌜ views (t .0) (now (value .exit)) (now (old .exit)) (now (ready .exit)) (now (land .exit))
         ≡ puts (writes (destsIn (now (reg .entry)) (now (del .entry)) count) (valuesIn (now (val .entry)) count) (drop used (now (landing .entry))))
         (views (t .0) (now (value .entry)) (now (old .entry)) (now (ready .entry)) (now (land .entry))) ⌝ }
 {
-    for k in 0..count {
-        commit_one(
-            value,
-            old,
-            ready,
-            land,
-            reg[k],
-            val[k],
-            del[k],
-            landing,
-            used + k,
-            t,
-        );
+    if landing.len() <= used {
+        return commit_rest(value, old, ready, land, reg, val, del, count, free, t);
     }
+    commit_with(
+        value,
+        old,
+        ready,
+        land,
+        reg,
+        val,
+        del,
+        count,
+        landing,
+        used,
+        free,
+        t,
+    )
 }
 
 // One more result of the instruction: v for register r, of delay l.
@@ -267,6 +402,18 @@ pub fn enter(
     );
 }
 
+// From when on no register is busy, as a call begins.
+pub fn free_from(ready: &[u64; 288]) -> Count
+    requires { ⌜ length (now ready) ≡ 288 ⌝ }
+    ensures { λ r. ⌜ r .0 ≡ latest 0 (now (ready .entry)) ⌝ }
+{
+    let mut free = Count(0);
+    for r in 0..288 {
+        free = later(free, Count(ready[r]));
+    }
+    free
+}
+
 // The waiting value of register r.
 fn waiting(value: &[u32; 288], land: &[u64; 288], r: u32, t: Count) -> u32
     requires { ⌜ r < 288 ⌝ }
@@ -353,7 +500,7 @@ fn leave_bank(
     }
 }
 
-// The state at tick t, at a place.
+// The state at tick t, at a place, with a link.
 pub fn leave(
     value: &[u32; 288],
     old: &[u32; 288],
@@ -361,10 +508,11 @@ pub fn leave(
     land: &[u64; 288],
     t: Count,
     place: Place,
+    link: Place,
 ) -> State
     requires { ⌜ Bank (t .0) (now value) (now old) (now ready) (now land) ⌝ }
     ensures sized { λ s. ⌜ Sized s ⌝ }
-    ensures at { λ s. ⌜ s .place ≡ place ⌝ }
+    ensures at { λ s. ⌜ (s .place ≡ place) × (s .link ≡ link) ⌝ }
     ensures is { λ s. ⌜ registersOf s ≡ views (t .0) (now (value .entry)) (now (old .entry)) (now (ready .entry)) (now (land .entry)) ⌝ }
 {
     let mut v = [0u32; 256];
@@ -403,6 +551,7 @@ pub fn leave(
     );
     State {
         place,
+        link,
         value: v,
         waiting: w,
         busy: b,

@@ -1,53 +1,59 @@
 -- Laws of one turn of the run's loop: how it ends from what the pass gathered.
-use mathlib.Core.Path.{_≡_, refl, sym, ap, _∙_}
-use mathlib.Core.Logic.{_≢_, ⊎-elim}
-use mathlib.Core.Bool.{Bool, true, false, false≢true}
-use mathlib.Core.List.{List, [], _∷_, map, List·Memᴰ, List·Memᴰ·head, List·Memᴰ·tail, List·Memᴰ·not-nil, List·Memᴰ·cases-cons, Memᴰ·of-map}
-use Prim.Native.Nat.{ℕ, _+_, _/_}
+use mathlib.Core.Path.{_≡_, refl, sym, ap, subst, _∙_}
+use mathlib.Core.Logic.{_≢_}
+use mathlib.Core.Bool.{Bool, true, false, _||_, _&&_, false≢true}
+use mathlib.Core.List.{List, [], _∷_, _++_, map, List·Memᴰ, List·Memᴰ·head, List·Memᴰ·tail}
+use Prim.Native.Nat.{ℕ, zero, suc, _+_, _/_, _^_, _<_}
+use native.Mathlib.Nat.{le-refl, le-step}
 use native.Mathlib.Omega.{arith}
-use lib.Dec.{eqb}
-use lib.ListN.{length, drop}
+use lib.Dec.{ltb}
+use lib.ListN.{length, getD, drop}
 use lib.Seq.{getD-set-other}
 use borrow.Author.Count.{below-none}
-use borrow.Author.Tests.{eqb-false}
+use borrow.Author.Tests.{not-true, not-false}
 use Rattle.word.specs.Choice.{pick}
-use Rattle.word.specs.Lists.{any}
+use Rattle.word.specs.Lists.{any, anyBelow}
 use Rattle.word.specs.Bytes.{words}
-use Rattle.word.proofs.Choice.{by-test}
 use Rattle.word.proofs.Bytes.{words-length}
 use Rattle.vliw.specs.Run.{ends}
 use Rattle.vliw.specs.Cell.{Cell, Registers, still, at, puts, others}
-use Rattle.vliw.specs.Machine.{Situation, Dest, go, writes, bytesLeft, stores, step}
+use Rattle.vliw.specs.Machine.{Situation, Dest, Out, fault, go, writes, bytesLeft, stores, step}
 use Rattle.vliw.specs.declared.Ending.{Ending}
 use Rattle.vliw.specs.declared.Ending.the-variants.{Stopped, Faulted}
 use Rattle.vliw.specs.declared.Fault.{Fault}
-use Rattle.vliw.specs.declared.Fault.the-variants.{InFlight, StoresClash}
+use Rattle.vliw.specs.declared.Fault.the-variants.{InFlight, StoresClash, BadLink}
+use Rattle.vliw.proofs.Flight.{arrives}
 use Rattle.isa.specs.Program.{spots, isStart, instructionAt, following, operation, operationsAt}
-use Rattle.isa.specs.Touch.{Result, resultIn, results, dests}
+use Rattle.isa.specs.Touch.{dests}
 use Rattle.isa.specs.declared.Op.{Op}
 use Rattle.isa.specs.declared.Delays.{Delays}
 use Rattle.isa.specs.declared.Place.{Place}
-use Rattle.isa.proofs.Instructions.{spots-length}
+use Rattle.isa.proofs.Instructions.{spots-length, start-inside, following-within}
+use Rattle.isa.proofs.Results.{dests-have}
 use Rattle.memory.specs.Memory.{Store, store, anyShare}
 use Rattle.memory.specs.Held.{storesIn, Stores}
 use Rattle.memory.specs.declared.FirstFault.{FirstFault}
 use Rattle.memory.specs.declared.FirstFault.the-variants.{None, First}
 use Rattle.memory.proofs.Accesses.{stores-none}
-use Rattle.machine.specs.Instruction.{Fired, fire, resultValues, storesOf, faultOf, Next, stops, nextBy, acts, instructionOf}
+use Rattle.machine.specs.Link.{Memory, Change, storing, linking, change}
+use Rattle.machine.specs.Instruction.{Fired, fire, resultValues, storesOf, faultOf, Next, stops, nextBy, goesOn, outBy, acts, instructionOf}
 use Rattle.machine.specs.Instruction.{at as goesTo}
-use Rattle.ticks.specs.Ticks.{views, Bank, destsIn, valuesIn, Results}
-use Rattle.ticks.proofs.Views.{views-aged, view-busy}
+use Rattle.machine.proofs.Acts.{calls-by}
+use Rattle.machine.proofs.Linking.{byLink, reads-by-link}
+use Rattle.ticks.specs.Ticks.{views, Bank, Freed, destsIn, valuesIn, Results}
+use Rattle.ticks.proofs.Views.{views-aged, view-busy, view-late}
 use Rattle.ticks.proofs.Results.{bytes-left}
 use Rattle.gather.specs.Gather.{opBusy, nextFrom, turnIn, opLate, fireAt, Scratch, Lists, fired, Came, Gathered}
 use Rattle.gather.specs.declared.Seen.{Seen}
 use Rattle.gather.specs.declared.Course.{Course}
-use Rattle.gather.specs.declared.Course.the-variants.{Open, Stop, Set}
-use Rattle.gather.proofs.OnePass.{next-from}
+use Rattle.gather.specs.declared.Course.the-variants.{Open, Stop, Set, Call, Back}
+use Rattle.gather.proofs.OnePass.{flies, hasEvery, next-from}
 use Rattle.gather.proofs.Passes.{gathered-views}
-use Rattle.turn.specs.Turn.{situationAt, endedBy, isStop, haltShared, haltFault, haltOf, Runs, Running, Room, Moved, Halted}
+use Rattle.turn.specs.Turn.{situationAt, beside, endedBy, isStop, links, isLost, anyLate, goalOf, linkAfter, haltShared, haltFault, haltOf, Runs, Running, Room, Moved, Halted}
+use Rattle.turn.specs.declared.Link.{Link}
 use Rattle.turn.specs.declared.Halt.{Halt}
 use Rattle.turn.specs.declared.Halt.the-variants.{Nothing, Ends}
-use Rattle.turn.proofs.Steps.{step-busy, step-stop, step-fault, step-shared, step-go}
+use Rattle.turn.proofs.Steps.{inFlight, step-busy, step-stop, step-lost, step-fault, step-shared, step-go}
 
 -- ---- the pass over an instruction
 
@@ -56,7 +62,7 @@ pub end-follows : (l p : List ℕ) (i : ℕ) → spots (words l) ≡ instruction
 end-follows l p i e = omega (arith, words-length l, spots-length (words l), ap length e)
 
 module _ {d : Delays} {m : List ℕ} {s : Seen} {a : Scratch} where
-  pub gathered : {t : ℕ} {p vs os rs ls : List ℕ} (w : List ℕ) (i j : ℕ) → Runs d p → Running t p i vs os rs ls → spots w ≡ instructionAt p i → j ≡ following p i
+  pub gathered : {t top : ℕ} {link : Link} {p vs os rs ls : List ℕ} (w : List ℕ) (i j : ℕ) → Runs d p → Running t top p i link vs os rs ls → spots w ≡ instructionAt p i → j ≡ following p i
       → Gathered (opLate t rs) (fireAt vs) d m j (map operation (spots w)) s a
       → Gathered (opBusy (views t vs os rs ls)) (fire (map (λ (c : Cell). c .value) (views t vs os rs ls))) d m (following p i) (operationsAt p i) s a
   gathered w i j on here e f k = gathered-views (here .bank) (here .idle) (on .own i (here .start)) (rw (e, f) at k)
@@ -77,20 +83,8 @@ room-stores z m = stores-none (z .offsets) (z .contents) (z .sizes)
 
 -- ---- register 0 is never in flight
 
-result-some : (r c : ℕ) (more : List Result) → ((x : Result) → List·Memᴰ x more → x .register ≢ 0)
-    → (x : Result) → List·Memᴰ x (resultIn r c more) → x .register ≢ 0
-result-some r c more h x =
-    ⊎-elim
-    (λ t. rw t (h x))
-    (λ t. rw t (λ m. ⊎-elim (λ q. rw q (eqb-false r 0 t)) (h x) (List·Memᴰ·cases-cons m)))
-    (by-test (eqb r 0))
-
-results-some : (os : List Op) (x : Result) → List·Memᴰ x (results os) → x .register ≢ 0
-results-some [] x m = absurd (List·Memᴰ·not-nil m)
-results-some (o ∷ os) x m = result-some (o .t) (o .opcode) _ (result-some (o .carry) (o .opcode) _ (results-some os)) x m
-
 dests-some : (d : Delays) (os : List Op) (e : Dest) → List·Memᴰ e (dests d os) → e .reg ≢ 0
-dests-some d os e m = let (r, i, q) = Memᴰ·of-map _ (results os) m in rw (← q) (results-some os r i)
+dests-some d os = dests-have (λ r. r ≢ 0) os (λ o m. (λ n. n, λ n. n)) d
 
 writes-idle : (ds : List Dest) (vs bs : List ℕ) (l : Registers) → ((e : Dest) → List·Memᴰ e ds → e .reg ≢ 0) → at l 0 .busy ≡ 0
     → at (puts (writes ds vs bs) l) 0 .busy ≡ 0
@@ -103,47 +97,123 @@ writes-idle (d ∷ ds) (v ∷ vs) bs l f h =
 later-idle : {t : ℕ} {vs os rs ls : List ℕ} → Bank t vs os rs ls → at (views t vs os rs ls) 0 .busy ≡ 0 → at (views (t + 1) vs os rs ls) 0 .busy ≡ 0
 later-idle {t} z h = rw (view-busy (z .sizes) (t + 1) 0 (omega arith)) (omega (arith, h, view-busy (z .sizes) t 0 (omega arith)))
 
--- ---- how a turn ends
+-- ---- a test of every register
+
+below-same : (f g : ℕ → Bool) (n : ℕ) → ((k : ℕ) → k < n → f k ≡ g k) → anyBelow f n ≡ anyBelow g n
+below-same f g zero h = refl
+below-same f g (suc n) h = rw (h n (le-refl (suc n)), below-same f g n (λ k b. h k (le-step b)))
+
+-- ---- where a turn goes
+
+-- what becomes of the link of an instruction that j follows
+abbrev linksOf : Course → ℕ → List Change
+linksOf Open j = []
+linksOf Stop j = []
+linksOf Set j = []
+linksOf Call j = linking j ∷ []
+linksOf Back j = []
+
+link-left : (w : Course) (link : Link) (j : Place) (b : List ℕ) → stores change (linksOf w (j .0)) (beside b link) ≡ beside b (linkAfter w link j)
+link-left Open link j b = refl
+link-left Stop link j b = refl
+link-left Set link j b = refl
+link-left Call link j b = refl
+link-left Back link j b = refl
+
+-- a stop reads none
+stays : (w : Course) (late : Bool) → isStop w ≡ true → links w && late ≡ false
+stays Open late h = refl
+stays Stop late h = refl
+stays Set late h = refl
+stays Call late h = absurd (false≢true h)
+stays Back late h = absurd (false≢true h)
+
+-- and what is neither call nor return keeps it
+link-kept : (w : Course) (link : Link) (j : Place) → links w ≡ false → linkAfter w link j ≡ link
+link-kept Open link j h = refl
+link-kept Stop link j h = refl
+link-kept Set link j h = refl
+link-kept Call link j h = absurd (false≢true (sym h))
+link-kept Back link j h = refl
 
 turn-stops : (w : Course) (q : Place) (x : Next) → isStop w ≡ true → nextBy (turnIn w q) x ≡ stops
 turn-stops Open q x h = absurd (false≢true h)
 turn-stops Stop q x h = refl
 turn-stops Set q x h = absurd (false≢true h)
+turn-stops Call q x h = absurd (false≢true h)
+turn-stops Back q x h = absurd (false≢true h)
 
-turn-goes : (w : Course) (q : Place) (j : ℕ) → isStop w ≡ false → (k : ℕ) × (nextBy (turnIn w q) (goesTo j) ≡ goesTo k)
-turn-goes Open q j h = (j, refl)
-turn-goes Stop q j h = absurd (false≢true (sym h))
-turn-goes Set q j h = (q .0, refl)
+module _ (p : List ℕ) (link : Link) (linked : link .starts ≡ isStart p (link .place .0)) (m : List ℕ) (es : List Fired) (j : Place) where
+  abbrev out : Course → Place → Out Change
+  out w q = outBy (isStart p) (j .0) (nextBy (turnIn w q) (goesTo (j .0))) (beside m link) es
+
+  turn-lost : (w : Course) (q : Place) → isLost w link ≡ true → out w q ≡ fault BadLink
+  turn-lost Open q h = absurd (false≢true h)
+  turn-lost Stop q h = absurd (false≢true h)
+  turn-lost Set q h = absurd (false≢true h)
+  turn-lost Call q h = absurd (false≢true h)
+  turn-lost Back q h = rw (sym linked ∙ not-true _ h)
+
+  turn-goes : (w : Course) (q : Place) → isStop w ≡ false → isLost w link ≡ false → out w q ≡ goesOn (linksOf w (j .0)) (goalOf w q j link .0) m es
+  turn-goes Open q h k = refl
+  turn-goes Stop q h k = absurd (false≢true (sym h))
+  turn-goes Set q h k = refl
+  turn-goes Call q h k = refl
+  turn-goes Back q h k = rw (sym linked ∙ not-false _ k)
+
+-- it neither stops nor is lost
+pub record Ahead (s : Seen) (link : Link) : Type 0 where
+  goes : isStop (s .course) ≡ false
+  found : isLost (s .course) link ≡ false
+
+-- only a call or a return may be lost
+pub unlinked : (w : Course) (link : Link) → links w ≡ false → isLost w link ≡ false
+unlinked Open link h = refl
+unlinked Stop link h = refl
+unlinked Set link h = refl
+unlinked Call link h = refl
+unlinked Back link h = absurd (false≢true (sym h))
+
+-- ---- how a turn ends
 
 -- what `haltOf` says of what was gathered, when it halts and when it does not
-pub data Halts (s : Seen) (shared : Bool) : Halt → Type 0 where
-  in-flight : s .busy ≡ true → Halts s shared (Ends (Faulted InFlight))
-  stopped : s .busy ≡ false → isStop (s .course) ≡ true → Halts s shared (Ends Stopped)
-  faulted : {f : Fault} → s .busy ≡ false → isStop (s .course) ≡ false → s .fault ≡ First f → Halts s shared (Ends (Faulted f))
-  clashes : s .busy ≡ false → isStop (s .course) ≡ false → s .fault ≡ None → shared ≡ true → Halts s shared (Ends (Faulted StoresClash))
-  goes-on : s .busy ≡ false → isStop (s .course) ≡ false → s .fault ≡ None → shared ≡ false → Halts s shared Nothing
+pub data Halts (s : Seen) (late : Bool) (link : Link) (shared : Bool) : Halt → Type 0 where
+  in-flight : s .busy ≡ true → Halts s late link shared (Ends (Faulted InFlight))
+  stopped : s .busy ≡ false → isStop (s .course) ≡ true → Halts s late link shared (Ends Stopped)
+  held-up : s .busy ≡ false → links (s .course) && late ≡ true → Halts s late link shared (Ends (Faulted InFlight))
+  lost : s .busy ≡ false → links (s .course) && late ≡ false → isLost (s .course) link ≡ true → Halts s late link shared (Ends (Faulted BadLink))
+  faulted : {f : Fault} → s .busy ≡ false → links (s .course) && late ≡ false → Ahead s link → s .fault ≡ First f → Halts s late link shared (Ends (Faulted f))
+  clashes : s .busy ≡ false → links (s .course) && late ≡ false → Ahead s link → s .fault ≡ None → shared ≡ true → Halts s late link shared (Ends (Faulted StoresClash))
+  goes-on : s .busy ≡ false → links (s .course) && late ≡ false → Ahead s link → s .fault ≡ None → shared ≡ false → Halts s late link shared Nothing
 
-pub halts : (s : Seen) (shared : Bool) → Halts s shared (haltOf s shared)
-halts s shared = by (s .busy) refl (isStop (s .course)) refl
+pub halts : (s : Seen) (late : Bool) (link : Link) (shared : Bool) → Halts s late link shared (haltOf s late link shared)
+halts s late link shared = by (s .busy) refl (isStop (s .course)) refl (links (s .course) && late) refl (isLost (s .course) link) refl
   where
-    last : s .busy ≡ false → isStop (s .course) ≡ false → s .fault ≡ None → (b : Bool) → shared ≡ b → Halts s shared (haltShared b)
-    last e h f true c = clashes e h f c
-    last e h f false c = goes-on e h f c
+    last : s .busy ≡ false → links (s .course) && late ≡ false → Ahead s link → s .fault ≡ None → (b : Bool) → shared ≡ b → Halts s late link shared (haltShared b)
+    last e n h f true c = clashes e n h f c
+    last e n h f false c = goes-on e n h f c
 
-    fault : s .busy ≡ false → isStop (s .course) ≡ false → (f : FirstFault) → s .fault ≡ f → Halts s shared (haltFault f shared)
-    fault e h None f = last e h f shared refl
-    fault e h (First g) f = faulted e h f
+    fault : s .busy ≡ false → links (s .course) && late ≡ false → Ahead s link → (f : FirstFault) → s .fault ≡ f → Halts s late link shared (haltFault f shared)
+    fault e n h None f = last e n h f shared refl
+    fault e n h (First g) f = faulted e n h f
 
-    by : (b : Bool) → s .busy ≡ b → (w : Bool) → isStop (s .course) ≡ w
-        → Halts s shared (pick b (Ends (Faulted InFlight)) (pick w (Ends Stopped) (haltFault (s .fault) shared)))
-    by true e w h = in-flight e
-    by false e true h = stopped e h
-    by false e false h = fault e h (s .fault) refl
+    by : (b : Bool) → s .busy ≡ b → (w : Bool) → isStop (s .course) ≡ w → (l : Bool) → links (s .course) && late ≡ l → (x : Bool) → isLost (s .course) link ≡ x
+        → Halts s late link shared
+        (pick b (Ends (Faulted InFlight)) (pick w (Ends Stopped) (pick l (Ends (Faulted InFlight)) (pick x (Ends (Faulted BadLink)) (haltFault (s .fault) shared)))))
+    by true e w h l n x k = in-flight e
+    by false e true h l n x k = stopped e h
+    by false e false h true n x k = held-up e n
+    by false e false h false n true k = lost e n k
+    by false e false h false n false k = fault e n (record { goes = h; found = k }) (s .fault) refl
 
-module _ {d : Delays} {p : List ℕ} {t : ℕ} {place : Place} {vs os rs ls m : List ℕ} {s : Seen} {a : Scratch} (runs : Runs d p) (here : Running t p (place .0) vs os rs ls)
+module _ {d : Delays} {p : List ℕ} {t top : ℕ} {place : Place} {link : Link} {vs os rs ls m : List ℕ} {s : Seen} {a : Scratch} (runs : Runs d p) (here : Running t top p (place .0) link vs os rs ls)
     (k : Gathered (opBusy (views t vs os rs ls)) (fire (map (λ (c : Cell). c .value) (views t vs os rs ls))) d m (following p (place .0)) (operationsAt p (place .0)) s a) (landing : List ℕ) (used : ℕ) where
   abbrev i : ℕ
   i = place .0
+
+  -- the place after the instruction
+  abbrev after : Place
+  after = record { 0 = following p i }
 
   abbrev l : Registers
   l = views t vs os rs ls
@@ -151,8 +221,11 @@ module _ {d : Delays} {p : List ℕ} {t : ℕ} {place : Place} {vs os rs ls m : 
   abbrev es : List Fired
   es = fired l (operationsAt p i)
 
-  abbrev from : Situation (List ℕ) Store
-  from = situationAt i l m landing used
+  abbrev whole : Memory
+  whole = beside m link
+
+  abbrev from : Situation Memory Change
+  from = situationAt i l whole landing used
 
   abbrev held : List Store
   held = storesIn (a .ats) (a .words) (a .sizes) (s .stores)
@@ -160,99 +233,130 @@ module _ {d : Delays} {p : List ℕ} {t : ℕ} {place : Place} {vs os rs ls m : 
   came : s .busy ≡ false → Came d m (following p i) (operationsAt p i) es s a
   came free = k .came free
 
-  unused : s .busy ≡ false → any (opBusy l) (operationsAt p i) ≡ false
-  unused free = sym (k .busy) ∙ free
-
   lists : s .busy ≡ false → s .fault ≡ None → Lists (dests d (operationsAt p i)) (resultValues m es) (storesOf (length m) es) s a
   lists free good = came free .lists good
 
-  goal : (free : s .busy ≡ false) → isStop (s .course) ≡ false → (j : ℕ) × (nextFrom (following p i) es (goesTo (following p i)) ≡ goesTo j)
-  goal free h = let (j, e) = turn-goes (s .course) (s .place) (following p i) h in (j, came free .next (goesTo (following p i)) ∙ e)
+  -- where it goes is where its course does
+  aims : s .busy ≡ false → nextFrom (following p i) es (goesTo (following p i)) ≡ nextBy (turnIn (s .course) (s .place)) (goesTo (following p i))
+  aims free = came free .next (goesTo (following p i))
+
+  -- it reads every register exactly if its course is a call or a return
+  reading : s .busy ≡ false → any hasEvery (operationsAt p i) ≡ links (s .course)
+  reading free =
+      reads-by-link (following p i) (map (λ (c : Cell). c .value) l) (operationsAt p i) (runs .single i (here .start))
+      ∙ ap byLink (next-from (following p i) es ∙ aims free) ∙ by (s .course)
+    where
+      by : (w : Course) → byLink (nextBy (turnIn w (s .place)) (goesTo (following p i))) ≡ links w
+      by Open = refl
+      by Stop = refl
+      by Set = refl
+      by Call = refl
+      by Back = refl
+
+  -- a register in flight, of those that it reads and writes
+  flying : s .busy ≡ false → inFlight d p i l whole (drop used landing) ≡ links (s .course) && anyLate t rs
+  flying free =
+      rw (sym (k .busy) ∙ free, reading free, below-same (flies l) (λ r. ltb t (getD rs r 0)) 288 (view-late (here .bank .sizes) t))
+
+  leads : s .busy ≡ false → Ahead s link
+      → outBy (isStart p) (following p i) (nextFrom (following p i) es (goesTo (following p i))) whole es ≡ goesOn (linksOf (s .course) (following p i)) (goalOf (s .course) (s .place) after link .0) m es
+  leads free h = rw (aims free) (turn-goes p link (here .linked) m es after (s .course) (s .place) (h .goes) (h .found))
 
   -- it ends the run, and nothing was written
-  pub turn-off : (e : Ending) → Ends e ≡ haltOf s (anyShare held) → Halted d p landing t (place .0) used from e vs os rs ls m
-  turn-off e q = record { running = here; is = by (anyShare held) refl (Ends e) q (halts s (anyShare held)) }
+  pub turn-off : (e : Ending) → Ends e ≡ haltOf s (anyLate t rs) link (anyShare held) → Halted d p landing t top (place .0) used link from e vs os rs ls m
+  turn-off e q = record { running = here; is = by (anyShare held) refl (Ends e) q (halts s (anyLate t rs) link (anyShare held)) }
     where
       Ended : Halt → Type 0
       Ended Nothing = Unit {0}
-      Ended (Ends x) = step store (instructionOf d p) from ≡ ends x (endedBy x from)
+      Ended (Ends x) = step change (instructionOf d p) from ≡ ends x (endedBy x from)
 
-      ended : {b : Bool} {h : Halt} → anyShare held ≡ b → Halts s b h → Ended h
-      ended c (in-flight f) = step-busy d p i l m (drop used landing) (here .idle) (sym (k .busy) ∙ f)
-      ended c (stopped f h) = step-stop d p i l m (drop used landing) (here .idle) (unused f) (came f .next (goesTo (following p i)) ∙ turn-stops (s .course) (s .place) _ h)
-      ended c (faulted {f = g} f h x) =
-          let (j, o) = goal f h in
-          step-fault d p i l m (drop used landing) (here .idle) (unused f) j o g (sym (came f .fault) ∙ x)
-      ended c (clashes f h x y) =
-          let (j, o) = goal f h in
-          step-shared d p i l m (drop used landing) (here .idle) (unused f) j o (sym (came f .fault) ∙ x) (rw (← lists f x .stores) (c ∙ y))
-      ended c (goes-on f h x y) = tt
+      ended : {b : Bool} {h : Halt} → anyShare held ≡ b → Halts s (anyLate t rs) link b h → Ended h
+      ended c (in-flight f) = step-busy d p i l whole (drop used landing) (here .idle) (rw (sym (k .busy) ∙ f))
+      ended c (stopped f h) = step-stop d p i l whole (drop used landing) (here .idle) (flying f ∙ stays (s .course) (anyLate t rs) h) (aims f ∙ turn-stops (s .course) (s .place) _ h)
+      ended c (held-up f n) = step-busy d p i l whole (drop used landing) (here .idle) (flying f ∙ n)
+      ended c (lost f n x) = step-lost d p i l whole (drop used landing) (here .idle) (flying f ∙ n) (rw (aims f) (turn-lost p link (here .linked) m es after (s .course) (s .place) x))
+      ended c (faulted {f = g} f n h y) =
+          step-fault d p i l whole (drop used landing) (here .idle) (flying f ∙ n) _ _ (leads f h) g (sym (came f .fault) ∙ y)
+      ended c (clashes f n h y z) =
+          step-shared d p i l whole (drop used landing) (here .idle) (flying f ∙ n) _ _ (leads f h) (sym (came f .fault) ∙ y) (rw (← lists f y .stores) (c ∙ z))
+      ended c (goes-on f n h y z) = tt
 
-      by : (b : Bool) → anyShare held ≡ b → (h : Halt) → h ≡ haltOf s b → Halts s b (haltOf s b) → Ended h
+      by : (b : Bool) → anyShare held ≡ b → (h : Halt) → h ≡ haltOf s (anyLate t rs) link b → Halts s (anyLate t rs) link b (haltOf s (anyLate t rs) link b) → Ended h
       by b c h r x = rw r (ended c x)
 
-  acts-go : (j : ℕ) → nextFrom (following p i) es (goesTo (following p i)) ≡ goesTo j → faultOf (length m) es ≡ None → anyShare (storesOf (length m) es) ≡ false
-      → instructionOf d p i .acts (map (λ (c : Cell). c .value) l) m ≡ go (resultValues m es) (storesOf (length m) es) j
+  acts-go : (cs : List Change) (j : ℕ) → outBy (isStart p) (following p i) (nextFrom (following p i) es (goesTo (following p i))) whole es ≡ goesOn cs j m es
+      → faultOf (length m) es ≡ None → anyShare (storesOf (length m) es) ≡ false
+      → instructionOf d p i .acts (map (λ (c : Cell). c .value) l) whole ≡ go (resultValues m es) (map storing (storesOf (length m) es) ++ cs) j
   unfolding acts
-  acts-go j went faultless unshared = rw (next-from (following p i) es, went, faultless, unshared)
+  acts-go cs j went faultless unshared = rw (next-from (following p i) es, went, faultless, unshared)
+
+  -- the link after it
+  linked-after : s .busy ≡ false → let after-it = linkAfter (s .course) link after in (after-it .starts ≡ isStart p (after-it .place .0)) × (after-it .place .0 < 2 ^ 32)
+  linked-after free = by (s .course) (aims free)
+    where
+      by : (w : Course) → nextFrom (following p i) es (goesTo (following p i)) ≡ nextBy (turnIn w (s .place)) (goesTo (following p i))
+          → (linkAfter w link after .starts ≡ isStart p (linkAfter w link after .place .0)) × (linkAfter w link after .place .0 < 2 ^ 32)
+      by Open e = (here .linked, here .low)
+      by Stop e = (here .linked, here .low)
+      by Set e = (here .linked, here .low)
+      by Call e =
+          let (o, t, m, w) = calls-by (following p i) (map (λ (c : Cell). c .value) l) (operationsAt p i) (next-from (following p i) es ∙ e) in
+          (sym (runs .calls i o (here .start) m w), omega (arith, runs .short, following-within p i (start-inside p i (here .start))))
+      by Back e = (here .linked, here .low)
 
   -- everything is written
-  module _ (on : Nothing ≡ haltOf s (anyShare held)) (to : Place) {us qs bs ns : List ℕ} (bank : Bank (t + 1) us qs bs ns)
+  module _ (on : Nothing ≡ haltOf s (anyLate t rs) link (anyShare held)) {us qs bs ns : List ℕ} {until : ℕ} (bank : Bank (t + 1) us qs bs ns) (freed : Freed (t + 1) until bs)
       (put : views (t + 1) us qs bs ns
       ≡ puts (writes (destsIn (a .regs) (a .dels) (s .results)) (valuesIn (a .vals) (s .results)) (drop used landing)) (views (t + 1) vs os rs ls))
       (m′ : List ℕ) (stored : m′ ≡ stores store held m) where
-    turn-on : s .busy ≡ false → s .fault ≡ None → anyShare held ≡ false → nextBy (turnIn (s .course) (s .place)) (goesTo (following p i)) ≡ goesTo (to .0)
-        → Moved d p landing t used from (to .0) (s .results) us qs bs ns m′
-    turn-on free good apart aim =
+    abbrev to : ℕ
+    to = goalOf (s .course) (s .place) after link .0
+
+    turn-on : s .busy ≡ false → links (s .course) && anyLate t rs ≡ false → Ahead s link → s .fault ≡ None → anyShare held ≡ false
+        → Moved d p landing t used from to (s .results) until (linkAfter (s .course) link after) us qs bs ns m′
+    turn-on free n h good apart =
         let ks = lists free good in
-        let went : nextFrom (following p i) es (goesTo (following p i)) ≡ goesTo (to .0) = came free .next (goesTo (following p i)) ∙ aim in
+        let went = leads free h in
         let faultless : faultOf (length m) es ≡ None = sym (came free .fault) ∙ good in
         let unshared : anyShare (storesOf (length m) es) ≡ false = rw (← ks .stores) apart in
         let left : bytesLeft (dests d (operationsAt p i)) (resultValues m es) (drop used landing) ≡ drop (used + s .results) landing = rw (← ks .dests, ← ks .values) (bytes-left (k .holds .results) landing used) in
+        let (linked, low) = linked-after free in
         record {
           few = k .holds .results .few;
           running =
               record {
                 bank = bank;
-                start = runs .loaded .onward i (to .0) (here .start) (runs .loaded .goes i _ m _ _ (to .0) (here .start) (acts-go (to .0) went faultless unshared));
+                freed = freed;
+                linked = linked;
+                low = low;
+                start = arrives (runs .loaded) (here .start) (runs .loaded .goes i _ whole _ _ to (here .start) (acts-go _ to went faultless unshared));
                 idle = rw (put, ks .dests) (writes-idle _ _ _ _ (dests-some d (operationsAt p i)) (later-idle (here .bank) (here .idle)));
               };
           is =
-              step-go d p i l m (drop used landing) (here .idle) (unused free) (to .0) went faultless unshared
-              ∙ rw (put, stored, ks .stores, ks .dests, ks .values, left, views-aged t vs os rs ls);
+              step-go d p i l whole (drop used landing) (here .idle) (flying free ∙ n) _ to went faultless unshared
+              ∙ rw (put, stored, ks .stores, ks .dests, ks .values, left, views-aged t vs os rs ls, link-left (s .course) link after (stores store (storesOf (length m) es) m));
         }
 
-    pub turn-went : (isStop (s .course) ≡ false → nextBy (turnIn (s .course) (s .place)) (goesTo (following p i)) ≡ goesTo (to .0)) → Moved d p landing t used from (to .0) (s .results) us qs bs ns m′
-    turn-went aim = by (halts s (anyShare held))
+    pub turn-went : Moved d p landing t used from to (s .results) until (linkAfter (s .course) link after) us qs bs ns m′
+    turn-went = by (halts s (anyLate t rs) link (anyShare held))
       where
         Free : Halt → Type 0
-        Free Nothing = Moved d p landing t used from (to .0) (s .results) us qs bs ns m′
+        Free Nothing = Moved d p landing t used from to (s .results) until (linkAfter (s .course) link after) us qs bs ns m′
         Free (Ends x) = Unit {0}
 
-        free : {h : Halt} → Halts s (anyShare held) h → Free h
+        free : {h : Halt} → Halts s (anyLate t rs) link (anyShare held) h → Free h
         free (in-flight f) = tt
         free (stopped f h) = tt
-        free (faulted f h x) = tt
-        free (clashes f h x y) = tt
-        free (goes-on f h x y) = turn-on f x y (aim h)
+        free (held-up f n) = tt
+        free (lost f n x) = tt
+        free (faulted f n h y) = tt
+        free (clashes f n h y z) = tt
+        free (goes-on f n h y z) = turn-on f n h y z
 
-        by : Halts s (anyShare held) (haltOf s (anyShare held)) → Moved d p landing t used from (to .0) (s .results) us qs bs ns m′
+        by : Halts s (anyLate t rs) link (anyShare held) (haltOf s (anyLate t rs) link (anyShare held)) → Moved d p landing t used from to (s .results) until (linkAfter (s .course) link after) us qs bs ns m′
         by x = rw (← on) at (free x)
 
--- a turn that does not halt goes on
-pub goes : (s : Seen) (shared : Bool) → Nothing ≡ haltOf s shared → isStop (s .course) ≡ false
-goes s shared e = by (halts s shared)
-  where
-    Free : Halt → Type 0
-    Free Nothing = isStop (s .course) ≡ false
-    Free (Ends x) = Unit {0}
-
-    free : {h : Halt} → Halts s shared h → Free h
-    free (in-flight f) = tt
-    free (stopped f h) = tt
-    free (faulted f h x) = tt
-    free (clashes f h x y) = tt
-    free (goes-on f h x y) = h
-
-    by : Halts s shared (haltOf s shared) → isStop (s .course) ≡ false
-    by x = rw (← e) at (free x)
+    -- where it is neither call nor return
+    pub turn-kept : links (s .course) ≡ false → Moved d p landing t used from to (s .results) until link us qs bs ns m′
+    turn-kept h =
+        subst (λ (x : Link). Moved d p landing t used from to (s .results) until x us qs bs ns m′) (link-kept (s .course) link after h) turn-went

@@ -2,7 +2,7 @@
 use mathlib.Core.Path.{_≡_, refl, _∙_, ap}
 use mathlib.Core.Logic.{_≢_}
 use mathlib.Core.Bool.{Bool, true}
-use mathlib.Core.List.{List, [], _∷_, map, List·Memᴰ, List·Memᴰ·head, List·Memᴰ·tail}
+use mathlib.Core.List.{List, [], _∷_, map, List·Memᴰ, List·Memᴰ·head, List·Memᴰ·tail, List·Memᴰ·not-nil, Memᴰ·append-left}
 use Prim.Native.Nat.{ℕ, zero, suc, _+_, _-_, _≤_, _<_}
 use native.Mathlib.Nat.{mod-lt}
 use native.Mathlib.Omega.{arith}
@@ -15,7 +15,7 @@ use Rattle.vliw.specs.Run.{numberOf}
 use Rattle.vliw.specs.Cell.{Cell, Registers, Write, still, at, aged, agedOf, written, writtenOf, put, puts, choose}
 use Rattle.vliw.specs.Machine.{Dest, Out, fault, stop, go, Instruction, uses, writes, AnyOrder, Situation, finish, step}
 use Rattle.vliw.specs.Schedule.{Reach}
-use Rattle.vliw.specs.Demand3.{WellFormed, Scheduled}
+use Rattle.vliw.specs.Demand3.{Goes, nextTo, anywhere, WellFormed, Scheduled}
 use Rattle.vliw.proofs.Lists.{set-each, perm-mem}
 use Rattle.vliw.proofs.Runs.{Keeps}
 use Rattle.vliw.proofs.Order.{each-write}
@@ -58,7 +58,12 @@ module _ {Memory Store : Type 0} (program : ℕ → Instruction Memory Store) (s
     pub cells : (r : ℕ) → Sound (s .place) r (at (s .registers) r)
     pub orders : AnyOrder (s .orders)
 
-  -- an instruction that goes from i to j: what was in flight is one next further
+  -- where nothing was in flight nothing is
+  aged-quiet : (j r v w b l : ℕ) → l ≤ b → b ≡ 0 → Sound j r (agedOf v w b l)
+  aged-quiet j r v w b zero low e = record { low = omega arith; flying = λ h. absurd (omega arith) }
+  aged-quiet j r v w b (suc l) low e = absurd (omega arith)
+
+  -- an instruction that goes from i to a next j: what was in flight is one next further
   module _ {i j : ℕ} (on : List·Memᴰ j (program i .nexts)) where
     further : {r b c : ℕ} → (0 < b → Flying i r b) → 0 < c → c + 1 ≡ b → Flying j r c
     further {r} {b} flying h e =
@@ -100,6 +105,12 @@ module _ {Memory Store : Type 0} (program : ℕ → Instruction Memory Store) (s
       written-sound old v zero h = record { low = omega arith; flying = fresh }
       written-sound old v (suc l) h = record { low = h; flying = fresh }
 
+-- wherever it goes, an instruction starts
+pub arrives : {Memory Store : Type 0} {store : Store → Memory → Memory} {program : ℕ → Instruction Memory Store} {starts : ℕ → Bool}
+    → WellFormed store program starts → {i j : ℕ} → starts i ≡ true → Goes program starts i j → starts j ≡ true
+arrives loaded {i} {j} s (nextTo on) = loaded .onward i j s on
+arrives loaded s (anywhere start none all) = start
+
 module _ {Memory Store : Type 0} {store : Store → Memory → Memory} {program : ℕ → Instruction Memory Store} {starts : ℕ → Bool}
     (loaded : WellFormed store program starts) (scheduled : Scheduled program starts) (s : Situation Memory Store) (fine : Fine program starts s) where
   -- what the instruction reads or writes is not in flight
@@ -128,25 +139,42 @@ module _ {Memory Store : Type 0} {store : Store → Memory → Memory} {program 
   kept : (o : Out Store) → acted program s ≡ o → Keeps (Fine program starts) (λ e t. e ≢ Faulted InFlight) (finish store (program (s .place)) s o)
   kept (fault f) e = λ h. loaded .faults (s .place) _ (s .memory) (fine .place) (e ∙ ap fault (cc h))
   kept stop e = λ h. omega (arith, ap numberOf h)
-  kept (go vs ss j) e =
-      record {
-        place = loaded .onward (s .place) j (fine .place) on;
-        cells =
-            puts-each (Sound program starts j) (s .orders .results 0 ws) (map aged (s .registers)) (λ w m. new w (perm-mem (fine .orders .results 0 ws) m))
-            (λ r. rw (List·getD-map aged (s .registers) r still) (aged-sound program starts on r _ _ _ _ (fine .cells r)));
-        orders = record { results = λ k. fine .orders .results (suc k); stores = λ k. fine .orders .stores (suc k) };
-      }
+  kept (go vs ss j) e = by (loaded .goes (s .place) _ (s .memory) vs ss j (fine .place) e)
     where
+      ds : List Dest
+      ds = program (s .place) .dests
+
       ws : List Write
-      ws = writes (program (s .place) .dests) vs (s .landing)
+      ws = writes ds vs (s .landing)
 
-      on : List·Memᴰ j (program (s .place) .nexts)
-      on = loaded .goes (s .place) _ (s .memory) vs ss j (fine .place) e
+      arrived : starts j ≡ true → ((r : ℕ) → Sound program starts j r (aged (at (s .registers) r)))
+          → ((w : Write) → List·Memᴰ w ws → (c : Cell) → Sound program starts j (w .reg) (written w c)) → Keeps (Fine program starts) (λ e t. e ≢ Faulted InFlight) (finish store (program (s .place)) s (go vs ss j))
+      arrived start old new =
+          record {
+            place = start;
+            cells =
+                puts-each (Sound program starts j) (s .orders .results 0 ws) (map aged (s .registers)) (λ w m. new w (perm-mem (fine .orders .results 0 ws) m))
+                (λ r. rw (List·getD-map aged (s .registers) r still) (old r));
+            orders = record { results = λ k. fine .orders .results (suc k); stores = λ k. fine .orders .stores (suc k) };
+          }
 
-      new : (w : Write) → List·Memᴰ w ws → (c : Cell) → Sound program starts j (w .reg) (written w c)
-      new w =
-          each-write (λ u. (c : Cell) → Sound program starts j (u .reg) (written u c)) (program (s .place) .dests) vs (s .landing)
-          (λ d v bs of c. written-sound program starts on (fine .place) of _ _ _ (choose-low (d .delay) bs (loaded .delays (s .place) d (fine .place) of)))
+      by : Goes program starts (s .place) j → Keeps (Fine program starts) (λ e t. e ≢ Faulted InFlight) (finish store (program (s .place)) s (go vs ss j))
+      by (nextTo on) =
+          arrived (arrives loaded (fine .place) (nextTo on)) (λ r. aged-sound program starts on r _ _ _ _ (fine .cells r))
+          (λ w. each-write (λ u. (c : Cell) → Sound program starts j (u .reg) (written u c)) ds vs (s .landing)
+          (λ d v bs of c. written-sound program starts on (fine .place) of _ _ _ (choose-low (d .delay) bs (loaded .delays (s .place) d (fine .place) of))))
+      by (anywhere start none all) =
+          arrived start (λ r. aged-quiet program starts j r _ _ _ _ (fine .cells r .low) (silent r)) (λ w m. absurd (List·Memᴰ·not-nil (rw none at m)))
+        where
+          -- what was in flight would be read
+          silent : (r : ℕ) → at (s .registers) r .busy ≡ 0
+          silent r = omega (arith, caught)
+            where
+              caught : 0 < at (s .registers) r .busy → ⊥
+              caught h =
+                  let f : Flying program starts (s .place) r (at (s .registers) r .busy) = fine .cells r .flying h in
+                  let read = all (f .maker) (f .result) (f .starting) (f .of) in
+                  omega (arith, quiet r (Memᴰ·append-left _ (rw (← f .reg) at read)))
 
   pub keeps : Keeps (Fine program starts) (λ e t. e ≢ Faulted InFlight) (step store program s)
   keeps = rw unhindered (kept (acted program s) refl)

@@ -1,7 +1,7 @@
 -- Demand 3 of any machine: landings and the order of writes cannot be seen.
 use mathlib.Core.Path.{_≡_}
 use mathlib.Core.Logic.{_≢_}
-use mathlib.Core.List.{List, List·Memᴰ, Pairwise, map}
+use mathlib.Core.List.{List, [], List·Memᴰ, Pairwise, map}
 use mathlib.Core.Bool.{Bool, true}
 use lib.ListN.{getD}
 use Prim.Native.Nat.{ℕ, _≤_}
@@ -21,13 +21,19 @@ settled s = record { place = s .place; registers = map landed (s .registers); me
 abbrev pub Commute : {Memory Store : Type 0} → (Store → Memory → Memory) → Store → Store → Type 0
 Commute {Memory = Memory} store a b = (m : Memory) → store b (store a m) ≡ store a (store b m)
 
+-- it goes to one of its nexts; or to any start, where it reads every register that a result goes to and writes none
+pub data Goes {Memory Store : Type 0} (program : ℕ → Instruction Memory Store) (starts : ℕ → Bool) (i j : ℕ) : Type 0 where
+  nextTo : List·Memᴰ j (program i .nexts) → Goes program starts i j
+  anywhere : starts j ≡ true → program i .dests ≡ []
+      → ((p : ℕ) (d : Dest) → starts p ≡ true → List·Memᴰ d (program p .dests) → List·Memᴰ (d .reg) (program i .reads)) → Goes program starts i j
+
 -- what loading gives the machine; `starts i`: i is an instruction's first syllable
 pub record WellFormed {Memory Store : Type 0} (store : Store → Memory → Memory) (program : ℕ → Instruction Memory Store) (starts : ℕ → Bool) : Type 0 where
   pub onward : (i j : ℕ) → starts i ≡ true → List·Memᴰ j (program i .nexts) → starts j ≡ true
   pub delays : (i : ℕ) (d : Dest) → starts i ≡ true → List·Memᴰ d (program i .dests) → 1 ≤ d .delay
   pub apart : (i : ℕ) → starts i ≡ true → Pairwise (λ (d e : Dest). d .reg ≢ e .reg) (program i .dests)
   pub goes : (i : ℕ) (f : List ℕ) (m : Memory) (vs : List ℕ) (ss : List Store) (j : ℕ)
-      → starts i ≡ true → program i .acts f m ≡ go vs ss j → List·Memᴰ j (program i .nexts)
+      → starts i ≡ true → program i .acts f m ≡ go vs ss j → Goes program starts i j
   pub commutes : (i : ℕ) (f : List ℕ) (m : Memory) (vs : List ℕ) (ss : List Store) (j : ℕ)
       → starts i ≡ true → program i .acts f m ≡ go vs ss j → Pairwise (Commute store) ss
   pub faults : (i : ℕ) (f : List ℕ) (m : Memory) → starts i ≡ true → program i .acts f m ≢ fault InFlight

@@ -2,9 +2,9 @@
 use Prim.Native.Nat.{ℕ, zero, suc}
 use Rattle.vliw.specs.declared.Ending.{Ending}
 use Rattle.vliw.specs.declared.Ending.the-variants.{Paused, Stopped, Faulted}
-use Rattle.vliw.specs.declared.Fault.the-variants.{InFlight, Misaligned, OutOfBounds, StoresClash}
+use Rattle.vliw.specs.declared.Fault.the-variants.{InFlight, Misaligned, OutOfBounds, StoresClash, BadLink}
 
--- document 01's number of each ending; the only definition of them
+-- the number of each ending, document 01's and order 1's; the only definition of them
 abbrev pub numberOf : Ending → ℕ
 numberOf Paused = 0
 numberOf Stopped = 255
@@ -12,6 +12,7 @@ numberOf (Faulted InFlight) = 11
 numberOf (Faulted Misaligned) = 12
 numberOf (Faulted OutOfBounds) = 13
 numberOf (Faulted StoresClash) = 14
+numberOf (Faulted BadLink) = 17
 
 pub data Step (S : Type 0) : Type 0 where
   ends : Ending → S → Step S  -- the run ends so, in this state

@@ -3,15 +3,16 @@ ghost use mathlib.Core.List.{List};
 ghost use Prim.Native.Nat.{ℕ};
 ghost use Rattle.vliw.specs.Demand3.{AnyDemand3};
 
-// What an instruction may fault with, in the order of document 01's numbers.
+// What an instruction may fault with, in the order of the customer's numbers.
 pub enum Fault {
     InFlight,
     Misaligned,
     OutOfBounds,
     StoresClash,
+    BadLink,
 }
 
-// How a run ends. `numberOf` of specs/Run.antt gives document 01's number of each.
+// How a run ends. `numberOf` of specs/Run.antt gives the customer's number of each.
 pub enum Ending {
     Paused,
     Stopped,

@@ -14,7 +14,6 @@ use Rattle.word.proofs.Choice.{or-false}
 use Rattle.isa.specs.Syllable.{bits, opcode, formatOf}
 use Rattle.isa.specs.Register.{general, branch}
 use Rattle.isa.specs.Decode.{twoTo, decodeAs, decode}
-use Rattle.isa.specs.declared.Way.the-variants.{Along, Stop}
 use Rattle.isa.specs.declared.Format.{Format}
 use Rattle.isa.specs.declared.Format.the-variants.{Still, Two, One, Carry, Test, Select, Load, Store, Copy, Jump, Fork}
 use Rattle.isa.proofs.Decoded.{decoded}
@@ -78,13 +77,13 @@ none-before x h = none x (or-false (set x) false h .0)
 clear-before : (x : ℕ) → x ≡ 0 → (set x || false) ≡ false
 clear-before x e = rw e
 
-nop-or-stop : (n x : ℕ) → (ltb 1 n || set x) ≡ false → n / 2 + x ≡ 0
-nop-or-stop n x h = let (k, l) = or-false (ltb 1 n) (set x) h in omega (arith, ltb-false 1 n k, none x l)
+few-and-none : (n x : ℕ) → (ltb 3 n || set x) ≡ false → n / 4 + x ≡ 0
+few-and-none n x h = let (k, l) = or-false (ltb 3 n) (set x) h in omega (arith, ltb-false 3 n k, none x l)
 
-nop-or-stop-clear : (n x : ℕ) → n / 2 + x ≡ 0 → (ltb 1 n || set x) ≡ false
-nop-or-stop-clear n x e = rw (le-ltb 1 n (omega arith), clear x (omega arith))
+few-and-clear : (n x : ℕ) → n / 4 + x ≡ 0 → (ltb 3 n || set x) ≡ false
+few-and-clear n x e = rw (le-ltb 3 n (omega arith), clear x (omega arith))
 
-ruleset tests = (none, clear, neither, both-clear, none-before, clear-before, nop-or-stop, nop-or-stop-clear)
+ruleset tests = (none, clear, neither, both-clear, none-before, clear-before, few-and-none, few-and-clear)
 
 one : (x : ℕ) → x < 2 → eqb x 0 ≡ false → x ≡ 1
 one x h e = omega (arith, eqb-false x 0 e)
@@ -131,9 +130,19 @@ module _ (s : ℕ) where
     abbrev Row : Format → Type 0
     Row f = (badBitsAs f s ≡ false) ↔ (fieldsAs (keptOf s) (decodeAs c s f) f ≡ low 24 s)
 
-    still : (b : Bool) → eqb (bits 23 18 s) 1 ≡ b → Row Still
-    still true h = rw h (omega (arith, tests, eqb-true (bits 23 18 s) 1 h, plain 6 18, plain 18 0, all-low))
-    still false h = rw h (omega (arith, tests, eqb-false (bits 23 18 s) 1 h, plain 6 18, plain 18 0, all-low))
+    -- a stop, a call, a return, and the others
+    still : (stop call return : Bool) → eqb (bits 23 18 s) 1 ≡ stop → eqb (bits 23 18 s) 2 ≡ call → eqb (bits 23 18 s) 3 ≡ return → Row Still
+    still true call return h i j =
+        let n = eqb-true (bits 23 18 s) 1 h in
+        rw n (omega (arith, tests, rw n at (plain 6 18), plain 18 0, all-low))
+    still false true return h i j =
+        let n = eqb-true (bits 23 18 s) 2 i in
+        rw n (λ k. omega (arith, rw n at (plain 6 18), plain 18 0, all-low), λ k. refl)
+    still false false true h i j =
+        let n = eqb-true (bits 23 18 s) 3 j in
+        rw n (omega (arith, tests, rw n at (plain 6 18), plain 18 0, all-low))
+    still false false false h i j =
+        rw (h, i, j) (omega (arith, tests, eqb-false (bits 23 18 s) 1 h, eqb-false (bits 23 18 s) 2 i, eqb-false (bits 23 18 s) 3 j, plain 6 18, plain 18 0, all-low))
 
     two : (b : Bool) → eqb (bits 11 11 s) 0 ≡ b → Row Two
     two true h = rw h (omega (arith, tests, general-at c 18, general-at c 12, register-at c h))
@@ -144,7 +153,7 @@ module _ (s : ℕ) where
     test false h = rw h (omega (arith, tests, plain 3 21, branch-at c 18, general-at c 12, number-at h))
 
     row : (f : Format) → Row f
-    row Still = still _ refl
+    row Still = still _ _ _ refl refl refl
     row Two = two _ refl
     row One = omega (arith, tests, general-at c 18, general-at c 12, plain 12 0, all-low)
     row Carry = (λ h. omega (arith, general-at c 18, general-at c 12, branch-at c 9, branch-at c 6, general-at c 0, all-low), λ h. refl)

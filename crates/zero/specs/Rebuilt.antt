@@ -9,7 +9,7 @@ use Rattle.isa.specs.Syllable.{bits, formatOf}
 use Rattle.isa.specs.Decode.{decode}
 use Rattle.isa.specs.declared.Op.{Op}
 use Rattle.isa.specs.declared.Way.{Way}
-use Rattle.isa.specs.declared.Way.the-variants.{Along, Stop, Goto, Branch}
+use Rattle.isa.specs.declared.Way.the-variants.{Along, Stop, Goto, Branch, Call, Return}
 use Rattle.isa.specs.declared.Format.{Format}
 use Rattle.isa.specs.declared.Format.the-variants.{Still, Two, One, Carry, Test, Select, Load, Store, Copy, Jump, Fork}
 use Rattle.zero.specs.Zero.{badBits}
@@ -31,12 +31,14 @@ generalField n = n % 64
 abbrev pub branchField : ℕ → ℕ
 branchField n = n % 8
 
--- "0 nop, 1 stop"; a target as it is
+-- the number of opcode 0 in bits 23..18, "0 nop, 1 stop", 2 call, 3 return; a target as it is
 abbrev pub wayField : Way → ℕ
 wayField Along = 0
-wayField Stop = 1
+wayField Stop = 2 ^ 18
 wayField (Goto target) = target .0
 wayField (Branch wanted target) = target .0
+wayField (Call target) = 2 * 2 ^ 18 + target .0
+wayField Return = 3 * 2 ^ 18
 
 module _ (k : Kept) (o : Op) where
   -- "bit 11 clear means s2 is register bits 5..0; bit 11 set means s2 is bits 10..0"
@@ -49,7 +51,7 @@ module _ (k : Kept) (o : Op) where
 
   -- bits 23..0
   abbrev pub fieldsAs : Format → ℕ
-  fieldsAs Still = wayField (o .way) * 2 ^ 18
+  fieldsAs Still = wayField (o .way)
   fieldsAs Two = generalField (o .t) * 2 ^ 18 + generalField (o .s1) * 2 ^ 12 + s2Field
   fieldsAs One = generalField (o .t) * 2 ^ 18 + generalField (o .s1) * 2 ^ 12
   fieldsAs Carry = generalField (o .t) * 2 ^ 18 + generalField (o .s1) * 2 ^ 12 + branchField (o .b) * 2 ^ 9 + branchField (o .carry) * 2 ^ 6 + generalField (o .s2)

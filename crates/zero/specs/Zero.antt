@@ -1,4 +1,4 @@
--- Refusal 4: "bits 23..18 of opcode 0 above 1, or a bit that should be zero is set". "Bits not named are zero."
+-- Refusal 4: "bits 23..18 of opcode 0 above 1, or a bit that should be zero is set", by order 1 "above 3". "Bits not named are zero."
 use mathlib.Core.Bool.{Bool, false, not, _||_, _&&_}
 use Prim.Native.Nat.{ℕ}
 use lib.Dec.{eqb, ltb}
@@ -14,7 +14,7 @@ abbrev pub besideRegister : ℕ → Bool
 besideRegister s = eqb (bits 11 11 s) 0 && set (bits 10 6 s)
 
 abbrev pub badBitsAs : Format → ℕ → Bool
-badBitsAs Still s = ltb 1 (bits 23 18 s) || set (bits 17 0 s)
+badBitsAs Still s = ltb 3 (bits 23 18 s) || (not (eqb (bits 23 18 s) 2) && set (bits 17 0 s))  -- 2 is call, with its target
 badBitsAs Two s = besideRegister s
 badBitsAs One s = set (bits 11 0 s)
 badBitsAs Carry s = false

@@ -32,7 +32,11 @@ fn bad_bits_as(f: Format, s: u32) -> bool
     ensures { λ r. ⌜ r ≡ badBitsAs f s ⌝ }
 {
     match f {
-        Format::Still => either(1 < bits(s, 23, 18), any(s, 17, 0)),
+        // Of opcode 0 a call alone has a target.
+        Format::Still => either(
+            3 < bits(s, 23, 18),
+            both(!holds(s, 23, 18, 2), any(s, 17, 0)),
+        ),
         Format::Two => beside_register(s),
         Format::One => any(s, 11, 0),
         Format::Test => either(any(s, 23, 21), beside_register(s)),

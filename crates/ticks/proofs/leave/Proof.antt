@@ -46,7 +46,7 @@ returns c =
     let d = e .before .before .before .before .before .before .before .before .before in
     let h = d .before .before .before .before .before in (
       sized-of (d .leave-bank .ensures .0) (e .leave-bank2 .ensures .0),
-      (refl, leave-registers _ _ _ (views-length (h .pre .sizes) (h .args .t .0)) (d .leave-bank .ensures .1) (e .leave-bank2 .ensures .1)),
+      ((refl, refl), leave-registers _ _ _ (views-length (h .pre .sizes) (h .args .t .0)) (d .leave-bank .ensures .1) (e .leave-bank2 .ensures .1)),
     )
 
 pub leave-spec : {M : Type 1} → statement M

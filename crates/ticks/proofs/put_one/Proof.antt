@@ -1,5 +1,7 @@
 -- Four stores are one result put.
 use native.Mathlib.Omega.{arith}
+use Rattle.vliw.proofs.Lists.{set-each}
+use Prim.Native.Nat.{_+_, _≤_, _<_}
 use borrow.Author.Needs.{needs}
 use Rattle.ticks.proofs.Views.{put-views, put-bank}
 use Rattle.ticks.proofs.put_one.Statement.{statement}
@@ -44,7 +46,7 @@ returns c =
     let a = h .args in
     let p = h .pre .1 in (
       put-bank (h .pre .0) (a .r) (p .0) (a .v) _ _ (c .before .before .read .result) (omega (arith, p .1)) (omega (arith, p .1, p .2)),
-      rw (c .before .before .read .ensures) (put-views (h .pre .0) (a .r) (p .0) (a .v) (a .b) (a .l)),
+      (λ free top freed. set-each (λ q x. a .t .0 < x → x ≤ free) (a .ready .now) (a .r) (a .t .0 + a .b) 0 (λ h. top (omega arith)) freed, rw (c .before .before .read .ensures) (put-views (h .pre .0) (a .r) (p .0) (a .v) (a .b) (a .l))),
     )
 
 pub put-one-spec : {M : Type 1} → statement M

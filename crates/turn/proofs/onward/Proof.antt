@@ -1,4 +1,4 @@
--- An instruction that does not stop goes where its course is set.
+-- Case by case.
 use mathlib.Core.Path.{sym}
 use mathlib.Core.Bool.{false≢true}
 use borrow.Author.Needs.{needs}
@@ -12,6 +12,10 @@ onward-spec =
     (λ c. search needs)
     (λ c. search needs)
     (λ c. search needs)
-    (λ c. rw (c .enum-told .given .1))
-    (λ c. absurd (false≢true (sym (rw (c .enum-told2 .given .1) at (c .before .before .pre)))))
-    (λ c. rw (c .enum-told3 .given .1)))
+    (λ c. search needs)
+    (λ c. search needs)
+    (λ c. λ link. rw (c .enum-told .given .1))
+    (λ c. λ link. rw (c .enum-told2 .given .1))
+    (λ c. λ link. rw (c .enum-told3 .given .1))
+    (λ c. λ link. rw (c .enum-told4 .given .1))
+    (λ c. λ link. absurd (false≢true (sym (rw (c .enum-told5 .given .1) at (c .before .before .pre))))))

@@ -1,7 +1,7 @@
 -- The tests of the arm that the form leads to are those of its line in `badBitsAs`.
 use borrow.Author.Needs.{needs}
 use mathlib.Core.Path.{_≡_}
-use mathlib.Core.Bool.{Bool}
+use mathlib.Core.Bool.{Bool, not}
 use Prim.Native.Nat.{ℕ}
 use Rattle.isa.specs.declared.Format.{Format}
 use Rattle.isa.specs.declared.Format.the-variants.{Select}
@@ -14,13 +14,18 @@ use Rattle.zero.proofs.bad_bits_as.Tie as tie
 bad-line : (s : ℕ) (f g : Format) (r : Bool) → f ≡ g → r ≡ badBitsAs g s → r ≡ badBitsAs f s
 bad-line s f g r e h = rw e h
 
-ruleset tests = (bad-line, joins)
+same-not : (a x : Bool) → a ≡ x → not a ≡ not x
+same-not a x e = rw e
+
+ruleset tests = (bad-line, same-not, joins)
 
 pub bad-bits-as-spec : {M : Type 1} → statement M
 bad-bits-as-spec =
     tie.close
     (tie.spec
     (λ c. search needs)
+    (λ c κs. search needs)
+    (λ c κs. search needs)
     (λ c κs. search needs)
     (λ c κs. search needs)
     (λ c κs. search needs)

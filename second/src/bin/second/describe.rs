@@ -42,6 +42,7 @@ fn meaning(request: &Request, name: &str, index: usize) -> String {
         },
         (_, "room") => format!(" ({})", ["number", "count", "place"].get(index / 4).unwrap_or(&"")),
         (_, "state") if index < 4 => " (place)".to_string(),
+        (_, "state") if index >= second::load::IMAGE_SIZE - 4 => " (link)".to_string(),
         (_, "state") => {
             let (cell, byte) = ((index - 4) / 10, (index - 4) % 10);
             let part = match byte {
@@ -145,13 +146,13 @@ fn program(bytes: &[u8]) -> String {
     lines
 }
 
-/// The place and every register that is not all zero.
+/// The place, the link and every register that is not all zero.
 fn state(image: &[u8]) -> String {
     if image.len() != second::load::IMAGE_SIZE {
         return format!("{}\n", hex(image, 64));
     }
     let state = State::from_image(image);
-    let mut lines = format!("  place {:08X}\n", state.place);
+    let mut lines = format!("  place {:08X} link {:08X}\n", state.place, state.link);
     for (index, cell) in state.cells.iter().enumerate() {
         if *cell != Default::default() {
             lines += &format!(

@@ -34,12 +34,13 @@ fn passing(random: &mut Random) -> Run {
     let memory = runs::memory_length(random).min(4096);
     let (table, draft) = loop {
         let table = checks::table(random);
-        let mut draft = runs::program(random, &table, memory);
+        let mut draft = runs::program(random, &table, memory, runs::SUBROUTINES);
         if schedule::repair(&table, &mut draft, 400) {
             break (table, draft);
         }
     };
-    let state = states::quiet(random, &draft.places(), memory);
+    let mut state = states::quiet(random, &draft.places(), memory);
+    state.link = states::link(random, &draft.places(), draft.syllables() as u32);
     finished(random, table, &draft, state, memory)
 }
 
@@ -52,7 +53,7 @@ fn finished(random: &mut Random, table: Vec<u8>, draft: &draft::Draft, state: St
     Run { table, program, state: state.image(), memory, landing, n, room: random.bytes(12) }
 }
 
-/// Number, count, place, memory and landed registers as on the plain machine, and never 11.
+/// Number, count, place, memory, landed registers and link register as on the plain machine, and never 11.
 pub fn as_plain(request: &Request, answer: &[u8]) -> Option<String> {
     let Request::Run(call) = request else { return Some("no run\n".to_string()) };
     let word = |at: usize| u32::from_be_bytes([answer[at], answer[at + 1], answer[at + 2], answer[at + 3]]);
@@ -61,8 +62,12 @@ pub fn as_plain(request: &Request, answer: &[u8]) -> Option<String> {
 
     let (table, program) = load(&call.table, &call.program, Lengths::of_load(12)).expect("a program that loads");
     let start = State::from_image(&call.state);
-    let mut plain =
-        Plain { place: start.place, values: start.cells.map(|cell| cell.value), memory: call.memory.clone() };
+    let mut plain = Plain {
+        place: start.place,
+        values: start.cells.map(|cell| cell.value),
+        link: start.link,
+        memory: call.memory.clone(),
+    };
     let expected = plain.run(&table, &program, call.n);
 
     let (number, count, place) = (word(4), word(8), word(12));
@@ -83,5 +88,26 @@ pub fn as_plain(request: &Request, answer: &[u8]) -> Option<String> {
     if state.cells.map(|cell| cell.value) != plain.values {
         return wrong("landed registers");
     }
+    if state.link != plain.link {
+        return wrong("link register");
+    }
     None
+}
+
+#[cfg(test)]
+mod tests {
+    use super::*;
+
+    #[test]
+    fn every_field_of_an_answer_is_judged() {
+        let request = requests(1, 1).next().expect("a request");
+        let good = request.answer();
+        assert_eq!(as_plain(&request, &good), None);
+        // Result, number, count and place, the state's place, a value, the link, the first byte of memory.
+        for at in [3, 7, 11, 15, 16 + 3, 16 + 4 + 10 + 3, 16 + 2884, 16 + 2887, 16 + 2888] {
+            let mut bad = good.clone();
+            bad[at] ^= 1;
+            assert!(as_plain(&request, &bad).is_some(), "byte {at}");
+        }
+    }
 }

@@ -45,15 +45,27 @@ read-bank-requires-2 c κs = search needs
 word-at-requires : tie.Need-word-at-requires
 word-at-requires c κs = search needs
 
-cast-t29 : tie.Need-cast-t29
-cast-t29 c = search needs
+cast-word-at : tie.Need-cast-word-at
+cast-word-at c = search needs
+
+offset-requires : tie.Need-offset-requires
+offset-requires c κs = search needs
+
+word-at-requires-2 : tie.Need-word-at-requires-2
+word-at-requires-2 c κs = search needs
+
+cast-t31 : tie.Need-cast-t31
+cast-t31 c = search needs
 
 returns : tie.Need-returns
 returns c =
-    let second = c .before .before .before .before .before in
+    let place = c .before .before in
+    let second = place .before .before .before .before .before in
     let first = second .before .before .before .before .before .before .before .before .before in
-    let a = first .before .before .before .before .before .before .args in
-    (search needs, (c .word-at .ensures, rw (joined (a .image .now)) (λ k. first .read-bank .ensures k ++ second .read-bank2 .ensures k)))
+    let a = first .before .before .before .before .before .before .args in (
+      search needs,
+      (place .word-at .ensures, rw (joined (a .image .now)) (λ k. first .read-bank .ensures k ++ second .read-bank2 .ensures k), rw (c .before .offset .ensures) at (c .word-at2 .ensures)),
+    )
 
 pub read-spec : {M : Type 1} → statement M
 read-spec =
@@ -70,5 +82,8 @@ read-spec =
     slice-aggregate-read-bank-8
     read-bank-requires-2
     word-at-requires
-    cast-t29
+    cast-word-at
+    offset-requires
+    word-at-requires-2
+    cast-t31
     returns)

@@ -25,7 +25,7 @@ load-with-requires c κs = λ e.
 
 -- what loading gives the run
 ready : (table program memory state room : List ℕ) → loadedWith (sizesOf program memory state room) table program ≡ Good
-    → (Bounds (tableOf table) × Passed (tableOf table) (words program)) × ((length program ≤ 16384) × (length state ≡ 2884))
+    → (Bounds (tableOf table) × Passed (tableOf table) (words program)) × ((length program ≤ 16384) × (length state ≡ 2888))
 ready table program memory state room good =
     let a = accepted _ table program good in
     let f = fits program memory state room (a .sized) in

@@ -4,11 +4,12 @@ use borrow.Author.Tests.{not-true, not-false}
 use mathlib.Core.Path.{_≡_, sym, _∙_}
 use mathlib.Core.Bool.{Bool, true, false}
 use mathlib.Core.List.{List}
-use Prim.Native.Nat.{ℕ, _<_}
+use Prim.Native.Nat.{ℕ, _^_, _≤_, _<_}
+use lib.ListN.{length}
 use native.Mathlib.Omega.{arith}
 use mir.Syntax.{w32}
 use mir.Val.{Fits}
-use Rattle.word.specs.Bytes.{words}
+use Rattle.word.specs.Bytes.{AreBytes, words}
 use Rattle.word.specs.Lists.{anyBelow}
 use Rattle.vliw.specs.Cell.{at}
 use Rattle.isa.specs.Program.{isStart}
@@ -16,13 +17,14 @@ use Rattle.tables.specs.Table.{tableOf}
 use Rattle.isa.specs.declared.Table.{Table}
 use Rattle.tables.specs.Bounds.{Bounds}
 use Rattle.loader.specs.Passed.{Passed}
-use Rattle.machine.specs.Image.{placeIn, registersIn}
+use Rattle.machine.specs.Image.{placeIn, registersIn, linkIn}
 use Rattle.call.specs.Run.{Call}
 use Rattle.turn.specs.Turn.{Runs}
 use Rattle.machine.specs.State.{registersOf}
 use Rattle.machine.specs.declared.State.{State}
 use Rattle.machine.specs.Valid.{badRegister}
-use Rattle.call.proofs.Fits.{start-small}
+use Rattle.machine.proofs.Images.{link-small}
+use Rattle.call.proofs.Fits.{start-small, few-syllables}
 use Rattle.sandbox.proofs.Ready.{runs}
 use Rattle.sandbox.proofs.Calls.{not-a-start, not-valid, valid-ends, returned-of, returned-ends}
 use Rattle.sandbox.proofs.runs.ran.Statement.{statement}
@@ -66,12 +68,16 @@ returns-2 c = λ room.
     sym (not-valid k h v)
 
 -- what loading gives the run, of the table as it was read
-ready : (table program : List ℕ) {t : Table} → t ≡ tableOf table → Bounds (tableOf table) × Passed (tableOf table) (words program) → Runs (t .delays) (words program)
-ready table program e p = rw e (runs (p .1) (p .0))
+ready : (table program : List ℕ) {t : Table} → t ≡ tableOf table → Bounds (tableOf table) × Passed (tableOf table) (words program) → length program ≤ 16384 → Runs (t .delays) (words program)
+ready table program e p few = rw e (runs (p .1) (p .0) (few-syllables program few))
 
 unbroken : (s : State) {b : Bool} → b ≡ anyBelow (λ r. badRegister r (at (registersOf s) r)) 288 → b ≡ false
     → anyBelow (λ r. badRegister r (at (registersOf s) r)) 288 ≡ false
 unbroken s told left = sym told ∙ left
+
+-- the link is read from four bytes
+link-word : (image : List ℕ) → AreBytes image → {k : ℕ} → k ≡ linkIn image → k < 2 ^ 32
+link-word image h e = rw e (link-small image h)
 
 -- by itself: beside all that is known at the call it is dear
 below : {n : ℕ} → Fits w32 n → n < 4294967296
@@ -81,12 +87,12 @@ run-requires : tie.Need-run-requires
 run-requires c κs =
     let start = c .before .before .before .before .before .before .before .before .before .before .before .before .before in
     let s = c .before .before .before .before .before .before .read .ensures in (
-      ready (start .args .table .now) (start .args .program .now) (c .before .read2 .ensures) (start .pre .0),
+      ready (start .args .table .now) (start .args .program .now) (c .before .read2 .ensures) (start .pre .0) (start .pre .1 .0),
       (
         s .0,
         (
           sym (c .before .before .before .before .before .is-start .ensures) ∙ not-false _ (c .before .before .before .before .if1 .left),
-          (unbroken (c .before .before .before .before .before .before .read .result) (c .before .before .before .bad-registers .ensures) (c .before .before .if2 .left), below (start .fits .n)),
+          (unbroken (c .before .before .before .before .before .before .read .result) (c .before .before .before .bad-registers .ensures) (c .before .before .if2 .left), (below (start .fits .n), link-word (start .args .state .now) (λ j. c .before .before .before .before .before .before .before .before .before .before .slice-known .given j .fits) (s .1 .2))),
         ),
       ),
     )
@@ -95,7 +101,7 @@ write-requires : tie.Need-write-requires
 write-requires c κs =
     let h = c .before .before .before .before .before .before .before .before .before .before .before .before .before .before .before .before .before .before .before in
     let r = c .before .before .before .before .before .run .ensures in
-    (h .pre .1 .1, (r .1 .sized, start-small (h .args .program .now) _ (h .pre .1 .0) (r .0)))
+    (h .pre .1 .1, (r .1 .sized, (start-small (h .args .program .now) _ (h .pre .1 .0) (r .0 .0), r .0 .1)))
 
 returns-3 : tie.Need-returns-3
 returns-3 c = λ room.
@@ -114,7 +120,7 @@ returns-3 c = λ room.
       n = a .n;
       room = room;
     } in
-    returned-ends (returned-of k (c .before .before .before .before .before .before .before .before .before .before .before .read2 .ensures) (s .0) (s .1) (c .before .before .before .before .before .before .before .before .before .run .ensures .1)) (c .before .before .before .write .ensures) ∙ sym (valid-ends k h v)
+    returned-ends (returned-of k (c .before .before .before .before .before .before .before .before .before .before .before .read2 .ensures) (s .0) (s .1) (s .2) (c .before .before .before .before .before .before .before .before .before .run .ensures .1)) (c .before .before .before .write .ensures) ∙ sym (valid-ends k h v)
 
 pub ran-spec : {M : Type 1} → statement M
 ran-spec =

@@ -19,7 +19,7 @@ returns-3 c =
     rw (
       sym (c .before .before .before .bad-program-length .ensures) ∙ c .before .before .if1 .left,
       le-ltb 65536 (length (a .memory .now)) (omega (arith, c .before .if2 .left)),
-      ne-eqb (length (a .state .now)) 2884 (λ e. omega (arith, e, c .if3 .taken)),
+      ne-eqb (length (a .state .now)) 2888 (λ e. omega (arith, e, c .if3 .taken)),
     )
 
 returns-4 : tie.Need-returns-4
@@ -28,7 +28,7 @@ returns-4 c =
     rw (
       sym (c .before .before .before .before .bad-program-length .ensures) ∙ c .before .before .before .if1 .left,
       le-ltb 65536 (length (a .memory .now)) (omega (arith, c .before .before .if2 .left)),
-      eq-eqb (length (a .state .now)) 2884 (omega (arith, c .before .if3 .left)),
+      eq-eqb (length (a .state .now)) 2888 (omega (arith, c .before .if3 .left)),
       ne-eqb (length (a .room .now)) 12 (λ e. omega (arith, e, c .if4 .taken)),
     )
 
@@ -38,7 +38,7 @@ returns-5 c =
     rw (
       sym (c .before .before .before .before .bad-program-length .ensures) ∙ c .before .before .before .if1 .left,
       le-ltb 65536 (length (a .memory .now)) (omega (arith, c .before .before .if2 .left)),
-      eq-eqb (length (a .state .now)) 2884 (omega (arith, c .before .if3 .left)),
+      eq-eqb (length (a .state .now)) 2888 (omega (arith, c .before .if3 .left)),
       eq-eqb (length (a .room .now)) 12 (omega (arith, c .if4 .left)),
     )
 

@@ -18,7 +18,7 @@ line image c r = registerRow c r (landed (cellIn image (indexOf c r)))
 
 abbrev Inv-loop : tie.InvT-loop
 Inv-loop out₀ at image c next₀ r₀ out next r =
-    (r ≤ 72) × (length out ≡ length out₀) × (at + 1080 ≤ length out₀) × (length image ≡ 2884) × (c < 4) × (next ≤ at + 15 * r)
+    (r ≤ 72) × (length out ≡ length out₀) × (at + 1080 ≤ length out₀) × (length image ≡ 2888) × (c < 4) × (next ≤ at + 15 * r)
     × (next ≡ at + length (each (line image c) r)) × (out ≡ sets out₀ at (each (line image c) r))
 
 abbrev μ-loop : tie.MeasureT-loop

@@ -12,7 +12,7 @@ use Rattle.text.proofs.registers.put_registers.Tie as tie
 
 abbrev Inv-loop : tie.InvT-loop
 Inv-loop out₀ at image next₀ c₀ out next c =
-    (c ≤ 4) × (length out ≡ length out₀) × (at + 4320 ≤ length out₀) × (length image ≡ 2884) × (next ≤ at + 1080 * c)
+    (c ≤ 4) × (length out ≡ length out₀) × (at + 4320 ≤ length out₀) × (length image ≡ 2888) × (next ≤ at + 1080 * c)
     × (next ≡ at + length (each (clusterRows image) c)) × (out ≡ sets out₀ at (each (clusterRows image) c))
 
 abbrev μ-loop : tie.MeasureT-loop

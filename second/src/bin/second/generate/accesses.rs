@@ -1,6 +1,6 @@
 //! Instructions of loads and stores, each access good or bad as planned.
 
-use super::draft::{Draft, Part, NOP, STOP};
+use super::draft::{Draft, Part, CALL, NOP, STOP};
 use super::random::Random;
 use crate::generate::states;
 use second::state::{Cell, State};
@@ -56,15 +56,23 @@ pub fn planned(random: &mut Random, memory: usize) -> Planned {
         if words.is_empty() || random.percent(20) {
             words.push(NOP);
         }
+        // A call besides: if the instruction faults, the link stays.
+        if cluster == 0 && random.percent(25) {
+            words.insert(random.index(words.len() + 1), CALL);
+        }
         parts.extend(words.into_iter().enumerate().map(|(index, word)| Part::new(index == 0, word)));
     }
     if random.percent(15) {
         make_busy(random, &mut state, &parts, before as u8);
     }
+    for part in parts.iter_mut().filter(|part| part.has_target()) {
+        part.aim = Some(random.index(before as usize + 2));
+    }
     let mut draft = Draft::default();
     draft.instructions.extend((0..before).map(|_| vec![Part::new(true, NOP)]));
     draft.instructions.push(parts);
     draft.instructions.push(vec![Part::new(true, STOP)]);
+    state.link = states::link(random, &draft.places(), draft.syllables() as u32);
     Planned { table, draft, state }
 }
 
@@ -163,7 +171,8 @@ fn make_busy(random: &mut Random, state: &mut State, parts: &[Part], before: u8)
     let instruction = &draft.split().instructions[0];
     let named = if random.percent(50) { instruction.reads() } else { instruction.destinations() };
     let named: Vec<_> = named.into_iter().filter(|register| !register.is_register_0()).collect();
-    if let Some(&register) = named.first() {
+    if !named.is_empty() {
+        let register = random.pick(&named);
         let busy = (before + random.between(0, 2) as u8).min(7);
         let cell = state.cell_mut(register);
         *cell = Cell { value: cell.value, waiting: 0, busy, landing: 0 };

@@ -1,11 +1,12 @@
 //! Programs that load: every instruction keeps to the table.
 
-use super::draft::{Draft, Part, NOP, STOP};
+use super::draft::{Draft, Part, CALL, NOP, RETURN, STOP};
 use super::pairs::EDGE_FIELDS;
 use super::random::Random;
 use second::syllable::{Class, Register, Syllable};
 use second::table::Table;
 use second::values;
+use std::ops::Range;
 
 /// How a program is to look.
 #[derive(Clone)]
@@ -17,10 +18,14 @@ pub struct Style {
     pub crowd: u32,
     /// If the memory's length is known, most loads and stores hit it.
     pub memory: Option<usize>,
-    /// So many instructions of a hundred end in goto, in a branch, or are stops.
+    /// So many instructions of a hundred have a goto, a branch, a call anywhere, or are stops or returns.
     pub gotos: u32,
     pub branchings: u32,
+    pub calls: u32,
     pub stops: u32,
+    pub returns: u32,
+    /// So many programs of a hundred have subroutines, which are called from several places.
+    pub subroutines: u32,
 }
 
 /// The last registers hold addresses where the memory's length is known; nobody writes them.
@@ -35,7 +40,10 @@ impl Style {
             memory: None,
             gotos: random.pick(&[2, 6, 15]),
             branchings: random.pick(&[5, 15, 40]),
+            calls: random.pick(&[0, 3, 10]),
             stops: random.pick(&[0, 3, 10]),
+            returns: random.pick(&[0, 0, 8]),
+            subroutines: 25,
         }
     }
 
@@ -61,39 +69,113 @@ impl Style {
     }
 }
 
-/// A program of so many instructions, the last a goto or a stop.
+/// The control syllable that an instruction is to have.
+#[derive(Clone, Copy, PartialEq, Eq)]
+enum Control {
+    Goto,
+    Branch,
+    Call,
+    Stop,
+    Return,
+}
+
+/// A program of so many instructions, the last a goto, a stop or a return; its subroutines come besides.
 pub fn program(random: &mut Random, table: &Table, style: &Style, instructions: usize) -> Draft {
+    let plan = Plan::new(random, style, instructions);
     let mut draft = Draft::default();
-    for index in 0..instructions {
-        let is_last = index == instructions - 1;
-        let control = match random.below(100) {
-            _ if is_last => {
-                if random.percent(70) {
-                    Some(0)
-                } else {
-                    Some(61)
-                }
-            }
-            chance if chance < style.gotos => Some(61),
-            chance if chance < style.gotos + style.branchings => Some(random.pick(&[62, 63])),
-            chance if chance < style.gotos + style.branchings + style.stops => Some(0),
-            _ => None,
-        };
+    for index in 0..plan.many() {
+        let control = plan.control(random, style, index);
         let mut instruction = match control {
-            Some(0) => vec![Part::new(true, STOP)],
+            Some(Control::Stop) => vec![Part::new(true, STOP)],
+            Some(Control::Return) => vec![Part::new(true, RETURN)],
             _ => instruction(random, table, style, control),
         };
-        for part in instruction.iter_mut().filter(|part| part.opcode() >= 61) {
-            let forward = index + 1 < instructions && random.percent(65);
-            part.aim = Some(if forward {
-                index + 1 + random.index(instructions - index - 1)
-            } else {
-                random.index(instructions)
-            });
+        for part in instruction.iter_mut().filter(|part| part.has_target()) {
+            part.aim = Some(plan.aim(random, index, control));
         }
         draft.instructions.push(instruction);
     }
     draft
+}
+
+/// The stretches of a program: the main part, and subroutines behind it or before it.
+struct Plan {
+    main: Range<usize>,
+    subroutines: Vec<Range<usize>>,
+}
+
+impl Plan {
+    fn new(random: &mut Random, style: &Style, instructions: usize) -> Plan {
+        let count = if random.percent(style.subroutines) { random.weighted(&[(3, 1), (2, 2), (1, 3)]) } else { 0 };
+        let before = count > 0 && random.percent(25);
+        // Before the main part they leave instruction 0 to a goto that leads to it.
+        let mut at = if before { 1 } else { instructions };
+        let mut subroutines = Vec::new();
+        for _ in 0..count {
+            let length = random.between(1, 5) as usize;
+            subroutines.push(at..at + length);
+            at += length;
+        }
+        let main = if before { at..at + instructions } else { 0..instructions };
+        Plan { main, subroutines }
+    }
+
+    fn many(&self) -> usize {
+        self.subroutines.iter().map(|stretch| stretch.end).fold(self.main.end, usize::max)
+    }
+
+    fn control(&self, random: &mut Random, style: &Style, index: usize) -> Option<Control> {
+        if let Some(stretch) = self.subroutines.iter().find(|stretch| stretch.contains(&index)) {
+            return match random.below(100) {
+                _ if index == stretch.end - 1 => Some(Control::Return),
+                // After a call in here the return leads back behind it, again and again.
+                0..=6 => Some(Control::Call),
+                7..=14 => Some(Control::Branch),
+                chance if chance < 15 + style.stops => Some(Control::Stop),
+                _ => None,
+            };
+        }
+        if !self.main.contains(&index) {
+            return Some(Control::Goto);
+        }
+        if index == self.main.end - 1 {
+            return Some(random.weighted(&[(66, Control::Stop), (28, Control::Goto), (6, Control::Return)]));
+        }
+        let calls = if self.subroutines.is_empty() { style.calls } else { 35 };
+        let chances = [
+            (style.gotos, Control::Goto),
+            (style.branchings, Control::Branch),
+            (calls, Control::Call),
+            (style.stops, Control::Stop),
+            (style.returns, Control::Return),
+        ];
+        let mut left = random.below(100);
+        for (chance, control) in chances {
+            if left < chance {
+                return Some(control);
+            }
+            left -= chance;
+        }
+        None
+    }
+
+    /// The instruction a target names: mostly one further on in its stretch, of a call the first one of a subroutine.
+    fn aim(&self, random: &mut Random, index: usize, control: Option<Control>) -> usize {
+        if control == Some(Control::Call) && !self.subroutines.is_empty() && random.percent(90) {
+            return self.subroutines[random.index(self.subroutines.len())].start;
+        }
+        let own = self.subroutines.iter().find(|stretch| stretch.contains(&index)).unwrap_or(&self.main);
+        if index < own.start {
+            return own.start;
+        }
+        if index + 1 < own.end && random.percent(65) {
+            index + 1 + random.index(own.end - index - 1)
+        } else if random.percent(80) {
+            own.start + random.index(own.len())
+        } else {
+            random.index(self.many())
+        }
+    }
 }
 
 /// What an instruction may still take.
@@ -106,7 +188,7 @@ struct Left {
 }
 
 /// An instruction that keeps to the table, with the control syllable asked for, whose aim is left open.
-pub fn instruction(random: &mut Random, table: &Table, style: &Style, control: Option<u32>) -> Vec<Part> {
+fn instruction(random: &mut Random, table: &Table, style: &Style, control: Option<Control>) -> Vec<Part> {
     let count = |of: fn(&second::table::Cluster) -> u32| table.clusters.iter().map(of).collect::<Vec<u32>>();
     let mut left = Left {
         alu: count(|cluster| cluster.alu),
@@ -122,10 +204,9 @@ pub fn instruction(random: &mut Random, table: &Table, style: &Style, control: O
         let wanted = random.between(1, width.min(style.crowd));
         let control_at = if cluster == 0 && control.is_some() { random.below(wanted) } else { wanted };
         for index in 0..wanted {
-            let word = if index == control_at {
-                control_word(random, style, control.unwrap_or(61))
-            } else {
-                operation(random, style, cluster, &mut left)
+            let word = match control {
+                Some(control) if index == control_at => control_word(random, style, control),
+                _ => operation(random, style, cluster, &mut left),
             };
             instruction.push(Part::new(index == 0, word));
         }
@@ -133,10 +214,13 @@ pub fn instruction(random: &mut Random, table: &Table, style: &Style, control: O
     instruction
 }
 
-fn control_word(random: &mut Random, style: &Style, opcode: u32) -> u32 {
-    match opcode {
-        61 => 61 << 24,
-        _ => opcode << 24 | style.branch(random) << 21,
+fn control_word(random: &mut Random, style: &Style, control: Control) -> u32 {
+    match control {
+        Control::Goto => 61 << 24,
+        Control::Branch => random.pick(&[62, 63]) << 24 | style.branch(random) << 21,
+        Control::Call => CALL,
+        Control::Stop => STOP,
+        Control::Return => RETURN,
     }
 }
 

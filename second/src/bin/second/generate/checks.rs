@@ -1,7 +1,7 @@
 //! Calls of check: programs that load, about half of them refused with 9.
 
 use super::build::{self, Style};
-use super::draft::{Draft, Part, NOP, STOP};
+use super::draft::{Draft, Part, CALL, NOP, STOP};
 use super::random::Random;
 use super::{loads, schedule, tables};
 use crate::requests::Program;
@@ -84,7 +84,10 @@ fn program(random: &mut Random, table: &[u8]) -> Draft {
         memory: None,
         gotos: random.pick(&[3, 8, 20]),
         branchings: random.pick(&[5, 15, 35]),
+        calls: random.pick(&[0, 0, 8]),
         stops: random.pick(&[0, 3, 6]),
+        returns: random.pick(&[0, 0, 6]),
+        subroutines: 25,
     };
     let most = random.pick(&[4, 8, 16, 24, 32]);
     let count = random.between(2, most) as usize;
@@ -97,7 +100,8 @@ fn way_back(random: &mut Random, table: &[u8], draft: &mut Draft) {
     let consumer = random.index(draft.instructions.len());
     let instruction = &draft.split().instructions[consumer];
     let touched: Vec<Register> = [instruction.reads(), instruction.destinations()].concat();
-    let touched: Vec<Register> = touched.into_iter().filter(|register| !register.is_register_0()).collect();
+    // call and return read registers of clusters too that nobody can write here.
+    let touched: Vec<Register> = touched.into_iter().filter(|&register| is_written(&parsed, register)).collect();
     if touched.is_empty() {
         return;
     }
@@ -108,18 +112,27 @@ fn way_back(random: &mut Random, table: &[u8], draft: &mut Draft) {
     parts.push(Part::new(true, word));
     let goto = Part { opens: true, word: 61 << 24, aim: Some(consumer) };
     if steps == 1 {
-        // The goto goes with the producer, in cluster 0.
+        // The goto, or a call, goes with the producer, in cluster 0.
+        let way = if random.percent(40) { Part { word: CALL, ..goto } } else { goto };
         match cluster {
-            0 if parsed.clusters[0].width > 1 => parts.push(Part { opens: false, ..goto }),
+            0 if parsed.clusters[0].width > 1 => parts.push(Part { opens: false, ..way }),
             0 => return,
-            _ => parts[0] = goto,
+            _ => parts[0] = way,
         }
         draft.instructions.push(parts);
+        if way.word == CALL {
+            draft.instructions.push(vec![Part::new(true, STOP)]);
+        }
     } else {
         draft.instructions.push(parts);
         draft.instructions.extend((2..steps).map(|_| vec![Part::new(true, NOP)]));
         draft.instructions.push(vec![goto]);
     }
+}
+
+fn is_written(table: &Table, register: Register) -> bool {
+    let (Register::General { cluster, .. } | Register::Branch { cluster, .. }) = register;
+    !register.is_register_0() && (cluster as usize) < table.clusters.len()
 }
 
 /// A syllable that gives the register a result, with its delay, if the table has room for one.

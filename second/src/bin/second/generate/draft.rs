@@ -19,6 +19,11 @@ impl Part {
     pub fn opcode(&self) -> u32 {
         self.word >> 24 & 63
     }
+
+    /// A call, a goto or a branch.
+    pub fn has_target(&self) -> bool {
+        Syllable(self.word).target().is_some()
+    }
 }
 
 #[derive(Clone, Default)]
@@ -28,6 +33,8 @@ pub struct Draft {
 
 pub const NOP: u32 = 0;
 pub const STOP: u32 = 1 << 18;
+pub const CALL: u32 = 2 << 18;
+pub const RETURN: u32 = 3 << 18;
 
 impl Draft {
     pub fn syllables(&self) -> usize {

@@ -102,6 +102,10 @@ fn sizes(random: &mut Random, call: &mut Program) {
     if random.percent(45) {
         let size = random.pick(&[0, 11, 13, 24]);
         call.room = random.bytes(size);
+        // 2 comes before 3.
+        if random.percent(10) {
+            last_bit_31(random, call);
+        }
     }
     if random.percent(65) {
         match random.below(12) {

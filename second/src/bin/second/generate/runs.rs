@@ -8,7 +8,7 @@ use super::random::Random;
 use super::{checks, loads, schedule, states};
 use crate::requests::Run;
 use second::load::{load, Lengths, IMAGE_SIZE};
-use second::program::Program;
+use second::program::{Instruction, Program};
 use second::run::{run_state, PAUSED};
 use second::state::{index, State};
 use second::syllable::Register;
@@ -22,30 +22,46 @@ enum Aim {
     Ordinary,
     Accesses,
     Busy,
+    Links,
     Damage,
     Sizes,
     Refused,
 }
 
-const AIMS: [(u32, Aim); 6] =
-    [(46, Aim::Ordinary), (18, Aim::Accesses), (14, Aim::Busy), (11, Aim::Damage), (8, Aim::Sizes), (5, Aim::Refused)];
+const AIMS: [(u32, Aim); 7] = [
+    (46, Aim::Ordinary),
+    (18, Aim::Accesses),
+    (14, Aim::Busy),
+    (12, Aim::Links),
+    (11, Aim::Damage),
+    (8, Aim::Sizes),
+    (5, Aim::Refused),
+];
+
+/// So many programs of a hundred have subroutines.
+pub const SUBROUTINES: u32 = 30;
 
 pub fn call(random: &mut Random) -> Run {
     match random.weighted(&AIMS) {
-        Aim::Ordinary => ordinary(random),
+        Aim::Ordinary => ordinary(random, SUBROUTINES),
         Aim::Accesses => planned(random),
         Aim::Busy => {
-            let mut call = ordinary(random);
+            let mut call = ordinary(random, SUBROUTINES);
             busy(random, &mut call);
             call
         }
+        Aim::Links => {
+            let mut call = ordinary(random, 100);
+            linked(random, &mut call);
+            call
+        }
         Aim::Damage => {
-            let mut call = ordinary(random);
+            let mut call = ordinary(random, SUBROUTINES);
             damage(random, &mut call);
             call
         }
         Aim::Sizes => {
-            let mut call = ordinary(random);
+            let mut call = ordinary(random, SUBROUTINES);
             sizes(random, &mut call);
             call
         }
@@ -54,10 +70,10 @@ pub fn call(random: &mut Random) -> Run {
 }
 
 /// A program with a valid state and memory, all of which run takes.
-pub fn ordinary(random: &mut Random) -> Run {
+fn ordinary(random: &mut Random, subroutines: u32) -> Run {
     let memory = memory_length(random);
     let table = checks::table(random);
-    let mut draft = program(random, &table, memory);
+    let mut draft = program(random, &table, memory, subroutines);
     // Without repair most runs would end early with 11.
     if random.percent(70) {
         schedule::repair(&table, &mut draft, 300);
@@ -66,13 +82,14 @@ pub fn ordinary(random: &mut Random) -> Run {
         checks::lengthen(random, &mut draft);
     }
     let mut state = states::quiet(random, &draft.places(), memory);
+    state.link = states::link(random, &draft.places(), draft.syllables() as u32);
     if random.percent(20) {
         states::send(random, &mut state);
     }
     finished(random, table, &draft, state, memory)
 }
 
-pub fn program(random: &mut Random, table: &[u8], memory: usize) -> Draft {
+pub fn program(random: &mut Random, table: &[u8], memory: usize, subroutines: u32) -> Draft {
     let parsed = second::table::read(table).expect("a good table");
     let style = Style {
         registers: random.pick(&[6, 12, 24, 56]),
@@ -81,7 +98,10 @@ pub fn program(random: &mut Random, table: &[u8], memory: usize) -> Draft {
         memory: Some(memory),
         gotos: random.pick(&[2, 5, 10]),
         branchings: random.pick(&[5, 15, 30]),
+        calls: random.pick(&[0, 0, 6]),
         stops: random.pick(&[0, 0, 4]),
+        returns: random.pick(&[0, 0, 4]),
+        subroutines,
     };
     let most = random.pick(&[3, 8, 16, 30]);
     let count = random.between(2, most) as usize;
@@ -182,11 +202,11 @@ fn busy(random: &mut Random, call: &mut Run) {
     call.n = random.pick(&[1, 1, 2, 10]);
 }
 
-/// Registers with the places of instructions that name them; at times only those of the rarer opcodes.
+/// Registers with the places of instructions that name them, not every one; at times only those of the rarer opcodes.
 fn named_registers(random: &mut Random, program: &Program) -> Vec<(u32, Register)> {
     let opcodes: &[u32] = random.pick(&[&[23], &[23], &[23], &[50, 51], &[57, 58, 59], &[60], &[62, 63], &[]]);
     let mut named = Vec::new();
-    for instruction in &program.instructions {
+    for instruction in program.instructions.iter().filter(|instruction| !reads_everything(instruction)) {
         for placed in &instruction.syllables {
             let syllable = placed.syllable;
             if opcodes.is_empty() || opcodes.contains(&syllable.opcode()) {
@@ -197,6 +217,34 @@ fn named_registers(random: &mut Random, program: &Program) -> Vec<(u32, Register
     }
     named.retain(|(_, register)| !register.is_register_0());
     named
+}
+
+fn reads_everything(instruction: &Instruction) -> bool {
+    instruction.has_call() || instruction.is_return()
+}
+
+/// A start at a call or a return with a link of any kind; at times one register is busy, any of all.
+fn linked(random: &mut Random, call: &mut Run) {
+    let (_, program) = load(&call.table, &call.program, Lengths::of_load(12)).expect("a program that loads");
+    let starts: Vec<u32> = program.instructions.iter().map(|instruction| instruction.place).collect();
+    let mut state = State::from_image(&call.state);
+    state.land_everything();
+    let calls: Vec<u32> = places(&program, |instruction| instruction.has_call());
+    let returns: Vec<u32> = places(&program, |instruction| instruction.is_return());
+    let from = if calls.is_empty() || random.percent(65) { returns } else { calls };
+    if !from.is_empty() {
+        state.place = random.pick(&from);
+    }
+    state.link = states::link(random, &starts, program.end());
+    if random.percent(45) {
+        state.cells[states::any_register(random)].busy = random.between(1, 7) as u8;
+    }
+    call.state = state.image();
+    call.n = random.pick(&[0, 1, 1, 2, 3, 10, 40]);
+}
+
+fn places(program: &Program, which: fn(&Instruction) -> bool) -> Vec<u32> {
+    program.instructions.iter().filter(|instruction| which(instruction)).map(|instruction| instruction.place).collect()
 }
 
 fn damage(random: &mut Random, call: &mut Run) {
@@ -229,7 +277,9 @@ fn sizes(random: &mut Random, call: &mut Run) {
         call.memory.resize(length, 0xA5);
     }
     if which & 4 != 0 {
-        let length = random.pick(&[0, 4, IMAGE_SIZE - 10, IMAGE_SIZE - 1, IMAGE_SIZE + 1, IMAGE_SIZE + 10, 4096]);
+        // Four bytes less: an image without the link register.
+        let near = [IMAGE_SIZE - 10, IMAGE_SIZE - 4, IMAGE_SIZE - 1, IMAGE_SIZE + 1, IMAGE_SIZE + 4, IMAGE_SIZE + 10];
+        let length = if random.percent(20) { random.pick(&[0, 4, 4096]) } else { random.pick(&near) };
         call.state.resize(length, 0);
     }
     if which & 8 != 0 {
@@ -255,6 +305,7 @@ fn refused(random: &mut Random) -> Run {
     let call = loads::call(random);
     let length = memory_length(random);
     let mut state = states::quiet(random, &[0], length);
+    state.link = random.word() >> random.below(32);
     if random.percent(30) {
         random.pick(&states::DAMAGES)(random, &mut state, &[0]);
     }

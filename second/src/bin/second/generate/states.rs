@@ -25,6 +25,28 @@ pub fn quiet(random: &mut Random, starts: &[u32], memory: usize) -> State {
     state
 }
 
+/// A link of any kind: 0, an instruction's first syllable, inside an instruction, at the program's end and beyond it.
+pub fn link(random: &mut Random, starts: &[u32], end: u32) -> u32 {
+    match random.below(20) {
+        0..=4 => 0,
+        5..=11 => random.pick(starts),
+        12..=14 => {
+            let inside: Vec<u32> = (0..end).filter(|place| !starts.contains(place)).collect();
+            if inside.is_empty() {
+                end
+            } else {
+                random.pick(&inside)
+            }
+        }
+        15 => end,
+        16 => end + 1,
+        17 => u32::MAX,
+        // Its low bits may look like a good one.
+        18 => random.pick(starts) | 1 << random.between(12, 31),
+        _ => random.word(),
+    }
+}
+
 fn value(random: &mut Random) -> u32 {
     match random.below(9) {
         0 | 1 => random.below(64),
@@ -53,7 +75,7 @@ pub fn send(random: &mut Random, state: &mut State) {
 }
 
 /// Any register but register 0; low numbers, which programs name, more often.
-fn any_register(random: &mut Random) -> usize {
+pub fn any_register(random: &mut Random) -> usize {
     let cluster = random.index(4);
     if random.percent(25) {
         return 256 + 8 * cluster + random.index(8);

@@ -35,7 +35,7 @@ pub fn input(random: &mut Random) -> Vec<u8> {
 fn good(random: &mut Random) -> Said {
     let memory = runs::memory_length(random).min(random.pick(&[16_383, 16_384]));
     let table = checks::table(random);
-    let mut draft = runs::program(random, &table, memory);
+    let mut draft = runs::program(random, &table, memory, runs::SUBROUTINES);
     if random.percent(75) {
         schedule::repair(&table, &mut draft, 300);
     }

@@ -37,6 +37,12 @@ pub fn refused(tally: &mut Tally, table: &Table, program: &Program, clash: Clash
         // A role that stands alone decides; others might hide that it is not looked at.
         if let [role] = roles(consumer, register)[..] {
             tally.count(format!("09 consumer only by {role}"));
+            if matches!(role, "call" | "return") {
+                tally.count(format!("09 consumer only by {role}, {kind} register"));
+                if steps == delay - 1 {
+                    tally.count(format!("09 consumer only by {role} at the last step, delay {delay}"));
+                }
+            }
         }
         for role in roles(producer, register).iter().filter(|role| role.contains("destination")) {
             tally.count(format!("09 producer by {role}"));
@@ -66,10 +72,20 @@ fn others(tally: &mut Tally, table: &Table, program: &Program, producer: &Instru
     if later.any(|other| !ways::consumers(table, program, other, ways::all).is_empty()) {
         tally.count("09 several producers".to_string());
     }
-    let wrong_ways: [(Nexts, &str); 2] = [(ways::taken, "following one"), (ways::passed_by, "target")];
+    let wrong_ways: [(Nexts, &str); 3] = [
+        (ways::taken, "branch's following one"),
+        (ways::passed_by, "branch's target"),
+        (ways::past_calls, "call's target"),
+    ];
     for (nexts, name) in wrong_ways {
         if !ways::consumers(table, program, producer, nexts).contains(&consumer.place) {
-            tally.count(format!("09 only by a branch's {name}"));
+            tally.count(format!("09 only by a {name}"));
+        }
+    }
+    let further: [(Nexts, &str); 2] = [(ways::calls_as_branches, "call"), (ways::past_returns, "return")];
+    for (nexts, name) in further {
+        if ways::consumers(table, program, producer, nexts).iter().any(|&place| place < consumer.place) {
+            tally.count(format!("09 a lower consumer behind a {name}"));
         }
     }
 }

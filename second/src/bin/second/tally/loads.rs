@@ -1,6 +1,6 @@
 //! What load came to: the cause, the kind of place, what else was broken, and of programs that load which limits they reach.
 
-use super::refusals::{cluster, double, refused};
+use super::refusals::{cluster, control, double, refused};
 use super::{class, Tally};
 use crate::requests::Program as Call;
 use second::answer::Refusal;
@@ -8,6 +8,7 @@ use second::load::{self, Lengths, ROOM_SIZE};
 use second::program::Program;
 use second::syllable::{Class, Register};
 use second::table::{self, Table};
+use std::cmp::Ordering;
 
 pub fn loaded(tally: &mut Tally, call: &Call) {
     tally.count(format!("room bytes: {}", class(call.room.len() as u64, &[0, 11, 12, 13])));
@@ -48,7 +49,7 @@ fn turned_away(tally: &mut Tally, call: &Call, refusal: Refusal) {
     }
 }
 
-/// Where it was: the cluster, and for 7 the opcodes that name the register.
+/// Where it was: the cluster, for 7 the opcodes that name the register, and which of the operations of opcode 0.
 fn named(tally: &mut Tally, call: &Call, refusal: Refusal) {
     let syllables = load::syllables(&call.program);
     let Refusal { number, place, cause } = refusal;
@@ -60,6 +61,13 @@ fn named(tally: &mut Tally, call: &Call, refusal: Refusal) {
         for syllable in double(&syllables, place).0 {
             tally.count(format!("07 by opcode {:02}", syllable.opcode()));
         }
+    }
+    let syllable = syllables[place as usize];
+    if (cause == "bits 17..0" || cause.starts_with("control")) && syllable.opcode() == 0 {
+        tally.count(format!("{number:02} {cause}, {}", control(syllable).unwrap_or("nop")));
+    }
+    if cause.starts_with("bits 23..18") {
+        tally.count(format!("04 bits 23..18 are {}", class(u64::from(syllable.bits(23, 18)), &[3, 4, 63])));
     }
 }
 
@@ -80,12 +88,12 @@ fn besides(tally: &mut Tally, table: &Table, call: &Call, refusal: Refusal) {
             tally.count(format!("{number:02} although {later:02} is broken lower"));
         }
     }
-    if refusal.cause == "last instruction a branch" {
+    if refusal.cause.starts_with("last instruction a ") {
         let same_instruction =
             of(8).into_iter().filter(|other| other.cause.starts_with("target") && other.place >= place);
         for other in same_instruction {
             let apart = if other.place > place { "apart" } else { "at one place" };
-            tally.count(format!("08 last instruction a branch, its target bad too, {apart}"));
+            tally.count(format!("08 {}, its target bad too, {apart}", refusal.cause));
         }
     }
 }
@@ -95,7 +103,8 @@ fn taken(tally: &mut Tally, table: &Table, program: &Program) {
     tally.count(format!("00 loads, C = {}", table.clusters.len()));
     let last = &program.instructions[program.instructions.len() - 1];
     tally.count(format!("00 loads, syllables: {}", class(u64::from(last.following()), &[1, 255, 4095, 4096])));
-    tally.count(format!("00 loads, the last instruction has a {}", if last.is_stop() { "stop" } else { "goto" }));
+    let end = last.syllables.iter().find_map(|placed| control(placed.syllable)).expect("an end");
+    tally.count(format!("00 loads, the last instruction has a {end}"));
     for instruction in &program.instructions {
         let opened = 1 + instruction.syllables.iter().map(|placed| placed.cluster).max().unwrap_or(0);
         tally.count(format!("00 loads, clusters opened: {opened}"));
@@ -119,6 +128,25 @@ fn taken(tally: &mut Tally, table: &Table, program: &Program) {
         for placed in &instruction.syllables {
             tally.count(format!("syllables loaded, opcode {:02}", placed.syllable.opcode()));
         }
+        near_8(tally, instruction);
+    }
+}
+
+/// Calls, alone and with company, where they lead, and returns.
+fn near_8(tally: &mut Tally, instruction: &second::program::Instruction) {
+    if instruction.is_return() {
+        tally.count("00 loads, a return".to_string());
+    }
+    if instruction.has_call() {
+        let company = if instruction.syllables.len() > 1 { "with company" } else { "alone" };
+        tally.count(format!("00 loads, a call {company}"));
+        let way = match instruction.target().map(|target| target.cmp(&instruction.place)) {
+            Some(Ordering::Less) => "backward",
+            Some(Ordering::Equal) => "to itself",
+            _ if instruction.target() == Some(instruction.following()) => "to the following one",
+            _ => "forward",
+        };
+        tally.count(format!("00 loads, a call {way}"));
     }
 }
 

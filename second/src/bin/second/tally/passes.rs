@@ -14,7 +14,9 @@ pub fn passed(tally: &mut Tally, table: &Table, program: &Program) {
         on_time(tally, table, program, producer);
         near(tally, table, program, producer);
     }
-    let wrong_ways: [(Nexts, &str); 2] = [(ways::past_stops, "stop"), (ways::past_gotos, "goto")];
+    // Whatever is in flight before a call or a return is refused there; a call's own results are not.
+    let wrong_ways: [(Nexts, &str); 3] =
+        [(ways::past_stops, "stop"), (ways::past_gotos, "goto"), (ways::past_calls, "call")];
     for (nexts, name) in wrong_ways {
         if program.instructions.iter().any(|producer| !ways::consumers(table, program, producer, nexts).is_empty()) {
             tally.count(format!("00 passes, a consumer only behind a {name}"));
@@ -29,6 +31,17 @@ fn on_time(tally: &mut Tally, table: &Table, program: &Program, producer: &Instr
         let touching = |place: &u32| program.starting_at(*place).is_some_and(|other| ways::touches(other, register));
         if sets[delay as usize].iter().any(touching) {
             tally.count(format!("00 passes, touched {delay} steps on with delay {delay}"));
+        }
+        let kind = if matches!(register, Register::Branch { .. }) { "branch" } else { "general" };
+        let there = || sets[delay as usize].iter().filter_map(|place| program.starting_at(*place));
+        if there().any(|other| other.has_call()) {
+            tally.count(format!("00 passes, a call when the delay of a {kind} register is over"));
+        }
+        if there().any(|other| other.is_return()) {
+            tally.count(format!("00 passes, a return when the delay of a {kind} register is over"));
+        }
+        if producer.has_call() && delay > 1 {
+            tally.count("00 passes, a call has results in flight".to_string());
         }
         if delay > 1 && producer.reads().contains(&register) {
             tally.count("00 passes, an instruction reads its own destination".to_string());

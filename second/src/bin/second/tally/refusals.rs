@@ -22,7 +22,7 @@ pub fn refused(refusal: Refusal, table: &[u8], program: &[u8]) -> String {
         6 => over(refusal, table, &words),
         7 => doubled(&words, place),
         8 if cause.starts_with("target") => format!("opcode {:02}", at().opcode()),
-        8 if cause.starts_with("stop") => with_company(&words, place),
+        8 if cause.ends_with("company") => with_company(&words, place),
         _ => String::new(),
     };
     format!("{number:02} {cause}{}{detail}", if detail.is_empty() { "" } else { ", " })
@@ -77,12 +77,15 @@ fn limited(counts: &Counts, limits: &Cluster, cause: &str) -> (u32, u32) {
     }
 }
 
-fn control(syllable: Syllable) -> Option<&'static str> {
+pub fn control(syllable: Syllable) -> Option<&'static str> {
     match syllable.opcode() {
         61 => Some("goto"),
         62 => Some("br"),
         63 => Some("brf"),
-        _ => syllable.is_stop().then_some("stop"),
+        0 if syllable.is_stop() => Some("stop"),
+        0 if syllable.is_call() => Some("call"),
+        0 if syllable.is_return() => Some("return"),
+        _ => None,
     }
 }
 
@@ -144,7 +147,7 @@ pub fn cluster(refusal: Refusal, table: &[u8], words: &[Syllable]) -> Option<u32
     }
 }
 
-/// Whether the company comes before or after the stop, in another cluster, and whether it is a nop.
+/// Whether the company comes before or after the stop or return, in another cluster, and whether it is a nop.
 fn with_company(words: &[Syllable], place: u32) -> String {
     let place = place as usize;
     let is_last = words[place].ends_instruction();

@@ -10,6 +10,12 @@ pub fn roles(instruction: &Instruction, register: Register) -> Vec<&'static str>
         let (syllable, cluster) = (placed.syllable, placed.cluster);
         let is = |named: Option<Register>| named == Some(register);
         let opcode = syllable.opcode();
+        if syllable.is_call() {
+            roles.push("call");
+        }
+        if syllable.is_return() {
+            roles.push("return");
+        }
         if is(syllable.s1(cluster)) {
             roles.push(match opcode {
                 52..=59 => "base",

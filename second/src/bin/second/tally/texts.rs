@@ -18,6 +18,10 @@ pub fn read(tally: &mut Tally, input: &[u8]) {
         Err(refusal) if refusal.number == 2 => tally.count(refused(refusal, &[], &[])),
         Err(refusal) => tally.count(format!("{:02} as in load", refusal.number)),
         Ok((answer, state)) => {
+            // Only a call makes it so.
+            if state.link != 0 {
+                tally.count("a call was executed".to_string());
+            }
             let landing = state.cells.iter().any(|cell| cell.landing > 0);
             let way = if landing { " with results on their way" } else { "" };
             tally.count(match answer.number {

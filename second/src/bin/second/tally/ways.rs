@@ -39,6 +39,33 @@ pub fn past_gotos(instruction: &Instruction) -> Vec<u32> {
     }
 }
 
+/// A call goes on to the following one.
+pub fn past_calls(instruction: &Instruction) -> Vec<u32> {
+    if instruction.has_call() {
+        vec![instruction.following()]
+    } else {
+        instruction.nexts()
+    }
+}
+
+/// A call goes to its target or on to the following one.
+pub fn calls_as_branches(instruction: &Instruction) -> Vec<u32> {
+    if instruction.has_call() {
+        vec![instruction.target().expect("a call's target"), instruction.following()]
+    } else {
+        instruction.nexts()
+    }
+}
+
+/// A return goes on to the following one.
+pub fn past_returns(instruction: &Instruction) -> Vec<u32> {
+    if instruction.is_return() {
+        vec![instruction.following()]
+    } else {
+        instruction.nexts()
+    }
+}
+
 /// The places reached by exactly so many nexts, one set for each number from 0 on.
 pub fn reached(program: &Program, from: u32, most: u32, nexts: Nexts) -> Vec<BTreeSet<u32>> {
     let mut sets = vec![BTreeSet::from([from])];

@@ -1,10 +1,10 @@
 //! Refusal 5: bit 30, too many clusters, control and copy where they may not be.
 
 use super::{any_part, Break, Case};
-use crate::generate::draft::{clusters, Part, NOP, STOP};
+use crate::generate::draft::{clusters, Part, CALL, NOP, RETURN, STOP};
 use crate::generate::random::Random;
 
-pub const BREAKS: [Break; 9] = [
+pub const BREAKS: [Break; 11] = [
     |random, case| {
         // Bit 30 missing at an instruction's first syllable.
         let (instruction, _) = any_part(random, &case.draft);
@@ -29,10 +29,12 @@ pub const BREAKS: [Break; 9] = [
             opened += 1;
         }
     },
-    |random, case| control_outside(random, case, 0),
-    |random, case| control_outside(random, case, 61),
-    |random, case| control_outside(random, case, 62),
-    |random, case| control_outside(random, case, 63),
+    |random, case| control_outside(random, case, STOP),
+    |random, case| control_outside(random, case, CALL),
+    |random, case| control_outside(random, case, RETURN),
+    |random, case| control_outside(random, case, 61 << 24),
+    |random, case| control_outside(random, case, 62 << 24),
+    |random, case| control_outside(random, case, 63 << 24),
     |random, case| {
         // Half the time in an instruction that opens any of the clusters.
         if random.percent(50) {
@@ -68,12 +70,12 @@ fn put_copy(random: &mut Random, case: &mut Case, instruction: usize, part: usiz
     case.draft.instructions[instruction][part] = Part { opens: old.opens, word, aim: None };
 }
 
-fn control_outside(random: &mut Random, case: &mut Case, opcode: u32) {
+fn control_outside(random: &mut Random, case: &mut Case, word: u32) {
     let aim = random.index(case.draft.instructions.len());
     let (instruction, _) = any_part(random, &case.draft);
     let parts = &mut case.draft.instructions[instruction];
-    let word = if opcode == 0 { STOP } else { opcode << 24 };
-    let part = Part { opens: false, word, aim: (opcode != 0).then_some(aim) };
+    let part = Part::new(false, word);
+    let part = Part { aim: part.has_target().then_some(aim), ..part };
     match clusters(parts).iter().position(|&cluster| cluster > 0) {
         Some(at) if random.percent(50) => parts.insert(at + 1, part),
         _ => parts.push(Part { opens: true, ..part }),

@@ -1,23 +1,28 @@
-//! Refusal 8: bad targets, a stop with company, a bad last instruction.
+//! Refusal 8: bad targets, a stop or a return with company, a bad last instruction.
 
 use super::{Break, Case};
-use crate::generate::draft::{Part, NOP, STOP};
+use crate::generate::draft::{Part, CALL, NOP, RETURN, STOP};
 use crate::generate::random::Random;
 
-pub const BREAKS: [Break; 12] = [
+pub const BREAKS: [Break; 18] = [
+    |random, case| target(random, case, Where::Inside),
     |random, case| target(random, case, Where::Inside),
     |random, case| target(random, case, Where::Inside),
     |random, case| target(random, case, Where::End),
     |random, case| target(random, case, Where::End),
+    |random, case| target(random, case, Where::End),
     |random, case| target(random, case, Where::Beyond),
     |random, case| target(random, case, Where::Beyond),
-    company,
-    company,
-    company,
+    |random, case| target(random, case, Where::Beyond),
+    |random, case| company(random, case, STOP),
+    |random, case| company(random, case, STOP),
+    |random, case| company(random, case, RETURN),
+    |random, case| company(random, case, RETURN),
+    |random, case| company(random, case, RETURN),
     |random, case| {
-        // The last instruction a branch.
+        // The last instruction a branch or a call.
         let aim = random.index(case.draft.instructions.len());
-        let word = random.pick(&[62, 63]) << 24 | random.below(8) << 21;
+        let word = branch_or_call(random);
         let mut last = vec![Part { opens: true, word, aim: Some(aim) }];
         if random.percent(40) && case.width(0) > 1 {
             last.insert(0, Part::new(true, NOP));
@@ -25,17 +30,8 @@ pub const BREAKS: [Break; 12] = [
         }
         case.draft.instructions.push(last);
     },
-    |random, case| {
-        // The last instruction a branch with a bad target, at its first syllable or behind it.
-        let many = case.draft.syllables() as u32;
-        let word = random.pick(&[62, 63]) << 24 | random.below(8) << 21 | (many + random.between(1, 9));
-        let mut last = vec![Part::new(true, word)];
-        if random.percent(70) {
-            last = vec![Part::new(true, NOP), Part::new(false, word)];
-            case.table[1] = case.table[1].max(2);
-        }
-        case.draft.instructions.push(last);
-    },
+    last_with_bad_target,
+    last_with_bad_target,
     |random, case| {
         // The last instruction plain.
         let mut last = vec![Part::new(true, NOP)];
@@ -49,6 +45,26 @@ pub const BREAKS: [Break; 12] = [
     },
 ];
 
+fn branch_or_call(random: &mut Random) -> u32 {
+    if random.percent(40) {
+        CALL
+    } else {
+        random.pick(&[62, 63]) << 24 | random.below(8) << 21
+    }
+}
+
+/// The last instruction a branch or a call with a bad target, at its first syllable or behind it.
+fn last_with_bad_target(random: &mut Random, case: &mut Case) {
+    let many = case.draft.syllables() as u32;
+    let word = branch_or_call(random) | (many + random.between(1, 9));
+    let mut last = vec![Part::new(true, word)];
+    if random.percent(70) {
+        last = vec![Part::new(true, NOP), Part::new(false, word)];
+        case.table[1] = case.table[1].max(2);
+    }
+    case.draft.instructions.push(last);
+}
+
 enum Where {
     Inside,
     End,
@@ -57,19 +73,20 @@ enum Where {
 
 /// Adds an instruction whose target is no instruction's first syllable.
 fn target(random: &mut Random, case: &mut Case, place: Where) {
-    let opcode = random.between(61, 63);
+    // The word and the bits that its target has.
+    let (word, bits) = random.pick(&[(CALL, 18), (61 << 24, 24), (62 << 24, 21), (63 << 24, 21)]);
     let at = random.index(case.draft.instructions.len());
     if matches!(place, Where::Inside) && case.draft.instructions.iter().all(|parts| parts.len() == 1) {
         let opens = case.c() > 1;
         case.draft.instructions[at].push(Part::new(opens, NOP));
     }
-    case.draft.insert(at, vec![Part::new(true, opcode << 24)]);
+    case.draft.insert(at, vec![Part::new(true, word)]);
     if random.percent(30) && case.width(0) > 1 {
         case.draft.instructions[at].insert(0, Part::new(true, NOP));
         case.draft.instructions[at][1].opens = false;
     }
     let many = case.draft.syllables() as u32;
-    let most = if opcode == 61 { 0xFF_FFFF } else { 0x1F_FFFF };
+    let most = (1 << bits) - 1;
     let index = match place {
         Where::Inside => {
             let places = case.draft.places();
@@ -85,19 +102,19 @@ fn target(random: &mut Random, case: &mut Case, place: Where) {
         Where::Beyond => match random.below(4) {
             0 => many + 1,
             1 => random.between(many, most),
-            2 => 1 << random.between(13, if opcode == 61 { 23 } else { 20 }),
+            2 => 1 << random.between(13, bits - 1),
             _ => most,
         },
     };
     let control = case.draft.instructions[at].len() - 1;
-    let register = if opcode == 61 { 0 } else { random.below(8) << 21 };
+    let register = if bits == 21 { random.below(8) << 21 } else { 0 };
     case.draft.instructions[at][control].word |= register | index;
 }
 
-/// A stop with company: a nop or another syllable, before or after it, in its cluster or the next.
-fn company(random: &mut Random, case: &mut Case) {
+/// A stop or a return with company: a nop or another syllable, before or after it, in its cluster or the next.
+fn company(random: &mut Random, case: &mut Case, word: u32) {
     let other = if random.percent(50) { NOP } else { 1 << 24 | random.below(64) << 18 };
-    let mut parts = vec![Part::new(false, STOP)];
+    let mut parts = vec![Part::new(false, word)];
     match random.below(4) {
         0 | 1 => parts.insert(0, Part::new(false, other)),
         2 if case.c() > 1 => parts.push(Part::new(true, other)),

@@ -1,11 +1,11 @@
 //! Refusal 6: widths, counts and a second control syllable.
 
 use super::{any_part, Break, Case};
-use crate::generate::draft::{clusters, Part, NOP, STOP};
+use crate::generate::draft::{clusters, Part, CALL, NOP, RETURN, STOP};
 use crate::generate::random::Random;
 use second::syllable::{Class, Syllable};
 
-pub const BREAKS: [Break; 13] = [
+pub const BREAKS: [Break; 15] = [
     |random, case| {
         // Too many syllables by nops alone.
         let (instruction, part) = any_part(random, &case.draft);
@@ -28,6 +28,8 @@ pub const BREAKS: [Break; 13] = [
     copies,
     copies,
     copies,
+    two_controls,
+    two_controls,
     two_controls,
     two_controls,
 ];
@@ -164,11 +166,10 @@ fn two_controls(random: &mut Random, case: &mut Case) {
         end -= 1;
     }
     for _ in 0..2 {
-        let opcode = random.pick(&[0, 61, 61, 62, 63]);
-        let word = if opcode == 0 { STOP } else { opcode << 24 };
+        let part = Part::new(false, random.pick(&[STOP, CALL, RETURN, 61 << 24, 62 << 24, 63 << 24]));
         let at = random.between(1, end as u32) as usize;
-        let aim = (opcode != 0).then(|| random.index(many));
-        parts.insert(at, Part { opens: false, word, aim });
+        let aim = part.has_target().then(|| random.index(many));
+        parts.insert(at, Part { aim, ..part });
         end += 1;
     }
     // Mostly the width is no second cause.

@@ -2,7 +2,7 @@
 
 use super::{any_part, Case};
 use crate::generate::build::{self, Style};
-use crate::generate::draft::{Part, STOP};
+use crate::generate::draft::{Part, CALL, RETURN, STOP};
 use crate::generate::random::Random;
 
 /// Sets some of the bits that should be zero, in some opcode's syllable.
@@ -10,7 +10,14 @@ pub fn stray_bits(random: &mut Random, case: &mut Case) {
     // Opcode, the bits that should be zero, and bits that must be set with them.
     let groups: Vec<(u32, u32, u32)> = (0..64u32)
         .flat_map(|opcode| match opcode {
-            0 => vec![(0, 0xF8_0000, 0), (0, 0x3_FFFF, 0), (0, 0x3_FFFF, STOP)],
+            // Above 3, also where the low bits look like a call; and beside nop, stop and return.
+            0 => vec![
+                (0, 0xF0_0000, 0),
+                (0, 0xF0_0000, CALL),
+                (0, 0x3_FFFF, 0),
+                (0, 0x3_FFFF, STOP),
+                (0, 0x3_FFFF, RETURN),
+            ],
             1..=18 | 24..=39 => vec![(opcode, 0x7C0, 0)],
             19..=22 => vec![(opcode, 0xFFF, 0)],
             40..=49 => vec![(opcode, 0x7C0, 0), (opcode, 0xE0_0000, 0), (opcode, 0xE0_0000, 0x800)],
