@@ -1,4 +1,5 @@
-/* Times libraries with the sandbox's C interface in one process, by turns, on the same calls: bench PROVED.so SECOND.so [OLD.so] */
+/* Times builds of the sandbox's C interface in one process, by turns, on the same calls: bench SECOND.so PROVED.so .. [--against OLD.so ..]. Of a
+   proved build the first library is as the linker puts it, each other one at a position of its own. */
 #define _POSIX_C_SOURCE 200809L
 #include <dlfcn.h>
 #include <stdio.h>
@@ -9,8 +10,8 @@
 #include "kernels.h"
 #include "vex.h"
 
-enum { PROVED, SECOND, OLD, LIBRARIES }; /* OLD, an earlier build of the proved library, only where it is given */
-enum { ROUNDS = 40, MEMORY = 4096 };
+enum { PROVED, SECOND, OLD, BUILDS }; /* OLD, an earlier build of the proved library, only where it is given */
+enum { ROUNDS = 40, MEMORY = 4096, POSITIONS_MAX = 16 };
 #define SAMPLE_SECONDS 0.02
 
 /* One library: its entries, and slices of its own, so that all can be compared after each sample. */
@@ -21,6 +22,17 @@ struct library {
                     uint8_t *, size_t);
     uint8_t state[VEX_STATE_BYTES], memory[MEMORY], room[VEX_ROOM_BYTES];
     size_t state_len; /* the image that it takes: one from before the link register has none */
+};
+
+/* One build: as the linker puts it, then at other positions. */
+struct build {
+    struct library at[POSITIONS_MAX];
+    int positions;
+};
+
+/* The least seconds of a call of one build: as the linker puts it, and the mean of its other positions. */
+struct times {
+    double linked, mean;
 };
 
 struct measure {
@@ -86,27 +98,47 @@ static int same(const struct library *a, const struct library *b) {
            memcmp(a->memory, b->memory, MEMORY) == 0;
 }
 
-/* The least time of a call of each library, sampled by turns. */
-static void measure(struct library *l, int libraries, const struct measure *m, double best[LIBRARIES]) {
+/* The times of a call of each build, of samples by turns. */
+static void measure(struct build *b, int builds, const struct measure *m, struct times took[BUILDS]) {
+    static double best[BUILDS][POSITIONS_MAX];
     unsigned long calls = 1;
-    while (sample(&l[SECOND], m, calls) < SAMPLE_SECONDS) calls *= 2;
-    for (int i = 0; i < libraries; i++) best[i] = 1e9;
+    while (sample(&b[SECOND].at[0], m, calls) < SAMPLE_SECONDS) calls *= 2;
     for (int round = 0; round < ROUNDS; round++) {
-        for (int turn = 0; turn < libraries; turn++) {
-            int which = (turn + round) % libraries;
-            double seconds = sample(&l[which], m, calls) / (double)calls;
-            if (seconds < best[which]) best[which] = seconds;
+        for (int turn = 0; turn < builds; turn++) {
+            int which = (turn + round) % builds;
+            for (int position = 0; position < b[which].positions; position++) {
+                struct library *l = &b[which].at[position];
+                double seconds = sample(l, m, calls) / (double)calls;
+                if (round == 0 || seconds < best[which][position]) best[which][position] = seconds;
+            }
         }
-        for (int i = 1; i < libraries; i++)
-            if (!same(&l[PROVED], &l[i])) fail(m->name, i == SECOND ? "proved and second differ" : "proved and old differ");
+        for (int i = 0; i < builds; i++)
+            for (int position = 0; position < b[i].positions; position++)
+                if (!same(&b[PROVED].at[0], &b[i].at[position])) fail(m->name, i == OLD ? "proved and old differ" : "proved and second differ");
+    }
+    for (int i = 0; i < builds; i++) {
+        took[i].linked = took[i].mean = best[i][0];
+        if (b[i].positions == 1) continue;
+        took[i].mean = 0;
+        for (int position = 1; position < b[i].positions; position++) took[i].mean += best[i][position] / (b[i].positions - 1);
     }
 }
 
 int main(int argc, char **argv) {
-    static struct library libraries[LIBRARIES];
-    int count = argc - 1;
-    if (count != SECOND + 1 && count != OLD + 1) fail("usage", "bench PROVED.so SECOND.so [OLD.so]");
-    for (int i = 0; i < count; i++) open_library(&libraries[i], argv[i + 1]);
+    static struct build builds[BUILDS];
+    int count = SECOND + 1, which = PROVED;
+    if (argc < 3) fail("usage", "bench SECOND.so PROVED.so .. [--against OLD.so ..]");
+    open_library(&builds[SECOND].at[builds[SECOND].positions++], argv[1]);
+    for (int i = 2; i < argc; i++) {
+        if (strcmp(argv[i], "--against") == 0) {
+            which = OLD;
+            count = BUILDS;
+            continue;
+        }
+        if (builds[which].positions == POSITIONS_MAX) fail(argv[i], "too many positions");
+        open_library(&builds[which].at[builds[which].positions++], argv[i]);
+    }
+    if (builds[PROVED].positions == 0 || (count > OLD && builds[OLD].positions == 0)) fail("usage", "a build without a library");
 
     const struct kernel *narrow = narrow_kernel(), *wide = wide_kernel(), *full = full_kernel(), *adds = adds_kernel(), *calls = calls_kernel();
     const struct measure measures[] = {
@@ -118,26 +150,32 @@ int main(int argc, char **argv) {
         {"run calls, one instruction", RUN, calls, 10000, 10000 * 1e-9, "ns", 1},
         {"slice of one instruction", RUN, full, 1, 1e-6, "us", 0},
     };
-    double best[sizeof measures / sizeof measures[0]][LIBRARIES];
-    const double *add = NULL; /* the times of an add */
+    struct times times[sizeof measures / sizeof measures[0]][BUILDS];
+    const struct times *add = NULL; /* those of an add */
     printf("%-30s %12s %12s %8s", "", "proved", "second", "ratio");
-    if (count > OLD) printf(" %12s %8s", "old", "old/new");
+    if (count > OLD) printf(" %12s %8s %8s", "old", "old/new", "linked");
     printf("\n");
     for (size_t i = 0; i < sizeof measures / sizeof measures[0]; i++) {
         const struct measure *m = &measures[i];
-        const double *took = best[i];
-        int timed = m->links && libraries[OLD].state_len < VEX_STATE_BYTES ? SECOND + 1 : count;
-        measure(libraries, timed, m, best[i]);
-        printf("%-30s %9.1f %s %9.1f %s %8.2f", m->name, took[PROVED] / m->unit, m->per, took[SECOND] / m->unit, m->per,
-               took[SECOND] / took[PROVED]);
-        if (timed > OLD) printf(" %9.1f %s %8.2f", took[OLD] / m->unit, m->per, took[OLD] / took[PROVED]);
+        const struct times *took = times[i];
+        int timed = m->links && builds[OLD].at[0].state_len < VEX_STATE_BYTES ? SECOND + 1 : count;
+        measure(builds, timed, m, times[i]);
+        printf("%-30s %9.1f %s %9.1f %s %8.2f", m->name, took[PROVED].mean / m->unit, m->per, took[SECOND].mean / m->unit, m->per,
+               took[SECOND].mean / took[PROVED].mean);
+        if (timed > OLD)
+            printf(" %9.1f %s %8.2f %8.2f", took[OLD].mean / m->unit, m->per, took[OLD].mean / took[PROVED].mean,
+                   took[OLD].linked / took[PROVED].linked);
         printf("\n");
         if (m->kernel == adds) add = took;
-        if (m->kernel == calls) printf("%-30s %12.2f %12.2f\n", "  calls by adds", took[PROVED] / add[PROVED], took[SECOND] / add[SECOND]);
+        if (m->kernel == calls) printf("%-30s %12.2f %12.2f\n", "  calls by adds", took[PROVED].mean / add[PROVED].mean, took[SECOND].mean / add[SECOND].mean);
         fflush(stdout);
     }
+    printf("A proved library's time is the mean of %d positions in memory.\n", builds[PROVED].positions - 1);
     printf("ratio: second's time by proved's; above 1 the proved library is the faster one. Only ratios of one run compare.\n");
     printf("calls by adds: the time of a call or a return by that of an add, of each library.\n");
-    if (count > OLD) printf("old/new: the earlier build's time by proved's; above 1 the proved library has become faster.\n");
+    if (count > OLD) {
+        printf("old/new: the earlier build's time by proved's; above 1 the proved library has become faster.\n");
+        printf("linked: the same where the linker puts them, by which chance has its part.\n");
+    }
     return 0;
 }

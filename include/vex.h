@@ -34,7 +34,7 @@ extern "C" {
 /* This interface. It goes up by one when a call, a number, a layout or a constant changes its meaning. */
 #define VEX_VERSION 2
 
-/* Stack that a call may use, with room to spare. On x86-64 the most that was measured is 20,200 bytes, in run. On Arm and other processors nothing was
+/* Stack that a call may use, with room to spare. On x86-64 the most that was measured is 20,264 bytes, in run. On Arm and other processors nothing was
  * measured, as the archive is for x86-64 alone; it is assumed that a library made for them uses at most twice as much. */
 #if defined(__x86_64__)
 #define VEX_STACK_BYTES 32768

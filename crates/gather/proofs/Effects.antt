@@ -77,14 +77,14 @@ module _ {d : Delays} {m : List ℕ} {j : ℕ} {e : Fired} {s : Seen} {a : Scrat
 
   -- no fault: its results, its stores, and where it goes on
   module _ (q : faultOf (length m) (e ∷ []) ≡ None) where
-    done : {f : FirstFault} {k l : ℕ} {w : Course} {q : Place} {b : Scratch} → f ≡ s .fault → ((n : Next) → nextBy (turnIn w q) n ≡ nextBy (turnIn (s .course) (s .place)) (nextFrom j (e ∷ []) n))
+    done : {k l : ℕ} {w : Course} {q : Place} {b : Scratch} → ((n : Next) → nextBy (turnIn w q) n ≡ nextBy (turnIn (s .course) (s .place)) (nextFrom j (e ∷ []) n))
         → Noted 2 (a .regs) (a .vals) (a .dels) (s .results) (b .regs) (b .vals) (b .dels) k (dests d (e .op ∷ [])) (resultValues m (e ∷ []))
         → Laid (length m) (a .ats) (a .words) (a .sizes) (s .stores) (b .ats) (b .words) (b .sizes) l (storesOf (length m) (e ∷ []))
-        → Acts d m j e s a (record { busy = s .busy; fault = f; results = k; stores = l; course = w; place = q }) b
-    done z n g t =
+        → Acts d m j e s a (record { busy = s .busy; fault = s .fault; results = k; stores = l; course = w; place = q }) b
+    done n g t =
         record {
           busy = refl;
-          fault = z ∙ rw q (same-fault (s .fault));
+          fault = rw q (same-fault (s .fault));
           next = n;
           holds = record { results = g .results; stores = t .stores };
           few = g .few;
@@ -96,7 +96,7 @@ module _ {d : Delays} {m : List ℕ} {j : ℕ} {e : Fired} {s : Seen} {a : Scrat
       → Noted 2 (a .regs) (a .vals) (a .dels) (s .results) gs vs ds k (dests d (e .op ∷ [])) (valuesBy e (computedOf (e .op .opcode) (e .x) (e .y) (e .b)))
       → Acts d m j e s a (record { busy = s .busy; fault = s .fault; results = k; stores = s .stores; course = s .course; place = s .place })
       (record { regs = gs; vals = vs; dels = ds; ats = a .ats; words = a .words; sizes = a .sizes })
-  results-only o t u g = done (rw t) refl (goes-along e o j (turnIn (s .course) (s .place)) u) (rw (no-load e t) g) (laid-none m e (no-store e t) (h .stores))
+  results-only o t u g = done (rw t) (goes-along e o j (turnIn (s .course) (s .place)) u) (rw (no-load e t) g) (laid-none m e (no-store e t) (h .stores))
 
   pub computes : {k : ℕ} {gs vs ds : List ℕ} → Formed (e .op) → 0 < e .op .opcode → e .op .opcode ≤ 51
       → Noted 2 (a .regs) (a .vals) (a .dels) (s .results) gs vs ds k (dests d (e .op ∷ [])) (valuesBy e (value (e .op .opcode) (e .x) (e .y) (e .b)))
@@ -120,30 +120,30 @@ module _ {d : Delays} {m : List ℕ} {j : ℕ} {e : Fired} {s : Seen} {a : Scrat
   turns f t n =
       let u = control-no-memory (e .op .opcode) t in
       let (y, z) = control-silent e f t in
-      done (rw u) refl n (noted-silent d e _ y z (h .results)) (laid-none m e (no-store e u) (h .stores))
+      done (rw u) n (noted-silent d e _ y z (h .results)) (laid-none m e (no-store e u) (h .stores))
 
-  -- an access that goes to p, where there was no fault before it
-  module _ {p : ℕ} (f : Formed (e .op)) (t : isMem (e .op .opcode) ≡ true) (z : s .fault ≡ None) (to : To p ≡ accessOf (length m) e) where
+  -- an access that goes to p
+  module _ {p : ℕ} (f : Formed (e .op)) (t : isMem (e .op .opcode) ≡ true) (to : To p ≡ accessOf (length m) e) where
     pub loads : {k : ℕ} {gs vs ds : List ℕ} → e .op .opcode ≤ 56
         → Noted 1 (a .regs) (a .vals) (a .dels) (s .results) gs vs ds k (destIn d (e .op .opcode) (e .op .t) [])
         (valueIn (e .op .t) (loaded (e .op .opcode) (numberAt (sizeOf (e .op .opcode)) p m)) [])
-        → Acts d m j e s a (record { busy = s .busy; fault = None; results = k; stores = s .stores; course = s .course; place = s .place })
+        → Acts d m j e s a (record { busy = s .busy; fault = s .fault; results = k; stores = s .stores; course = s .course; place = s .place })
         (record { regs = gs; vals = vs; dels = ds; ats = a .ats; words = a .words; sizes = a .sizes })
     loads u g =
         let c = e .op .opcode in
         let r = memory-range c t in
-        done (sym (own-fault m e t to)) (sym z) (memory-goes-along e f j (turnIn (s .course) (s .place)) t)
+        done (sym (own-fault m e t to)) (memory-goes-along e f j (turnIn (s .course) (s .place)) t)
         (rw (within-true 52 56 c (r .0) u, ← to) (noted-one d e _ g (f .single (r .0))))
         (laid-none m e (within-false 57 59 c (λ x y. omega arith)) (h .stores))
 
     pub lays : {qs us cs : List ℕ} {n : ℕ} → n ≡ sizeOf (e .op .opcode) → 56 < e .op .opcode → Stores qs us cs (s .stores + 1) (length m)
         → storesIn qs us cs (s .stores + 1) ≡ storesIn (a .ats) (a .words) (a .sizes) (s .stores) ++ (record { at = p; size = n; value = stored (e .op .opcode) (e .stored) } ∷ [])
-        → Acts d m j e s a (record { busy = s .busy; fault = None; results = s .results; stores = s .stores + 1; course = s .course; place = s .place })
+        → Acts d m j e s a (record { busy = s .busy; fault = s .fault; results = s .results; stores = s .stores + 1; course = s .course; place = s .place })
         (record { regs = a .regs; vals = a .vals; dels = a .dels; ats = qs; words = us; sizes = cs })
     lays size u g l =
         let c = e .op .opcode in
         let r = memory-range c t in
-        done (sym (own-fault m e t to)) (sym z) (memory-goes-along e f j (turnIn (s .course) (s .place)) t)
+        done (sym (own-fault m e t to)) (memory-goes-along e f j (turnIn (s .course) (s .place)) t)
         (noted-silent d e _ (f .silent u (λ z. omega arith)) (f .single (r .0)) (h .results))
         (rw (within-true 57 59 c u (r .1), ← to, ← size) (record { stores = g; few = omega arith; lists = l }))
 

@@ -61,6 +61,11 @@ pub record Own (xs : List Spot) : Type 0 where
 abbrev pub Timely : Delays → Type 0
 Timely d = (o r : ℕ) → (0 < delayOf d o r) × (delayOf d o r ≤ 8)
 
+-- at tick t register 0 is not in flight, and no other is unless it is said so
+pub record Flying (flying : Bool) (t : ℕ) (rs : List ℕ) : Type 0 where
+  pub nothing : getD rs 0 0 ≤ t
+  pub others : flying ≡ false → (r : ℕ) → getD rs r 0 ≤ t
+
 -- the opcodes of nop, stop, call, return, goto, br and brf
 abbrev pub isTurn : ℕ → Bool
 isTurn opcode = eqb opcode 0 || ltb 60 opcode

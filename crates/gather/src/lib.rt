@@ -34,7 +34,7 @@ ghost use Rattle.memory.specs.Held.{Within, Stores, storesIn};
 ghost use Rattle.memory.specs.declared.FirstFault.the-variants.{None};
 ghost use Rattle.machine.specs.Instruction.{addressOf, valueIn, Next, nextBy};
 ghost use Rattle.ticks.specs.Ticks.{Results};
-ghost use Rattle.gather.specs.Gather.{Own, Timely, Formed, isTurn, turnIn, namedLate, opLate, fireAt, destIn, valuesBy, Noted, Scratch, scratch, Holds, Acts, Does, Gathered};
+ghost use Rattle.gather.specs.Gather.{Own, Timely, Flying, Formed, isTurn, turnIn, namedLate, opLate, fireAt, destIn, valuesBy, Noted, Scratch, scratch, Holds, Acts, Does, Gathered};
 
 // Where the operations so far go on: that is open, they stop, it is set to a place, they call there, or go back to the link. Apart from the
 // place, since copying isa's Turn once for each operation makes the loop twice as slow (docs/DECISIONS.md).
@@ -74,11 +74,15 @@ fn named_late(ready: &[u64; 288], r: u32, t: Count) -> bool
     r != 0 && ticks::late(ready, r, t)
 }
 
-// Whether a register of the operation is in flight.
-fn late(op: Op, ready: &[u64; 288], t: Count) -> bool
+// Whether a register of the operation is in flight; where none can be, nothing is asked.
+fn late(op: Op, ready: &[u64; 288], flying: bool, t: Count) -> bool
     requires { ⌜ Formed op ⌝ }
+    requires { ⌜ (flying ≡ false → opLate (t .0) (now ready) op ≡ false) ⌝ }
     ensures { λ b. ⌜ b ≡ opLate (t .0) (now (ready .entry)) op ⌝ }
 {
+    if !flying {
+        return false;
+    }
     if ticks::late(ready, op.s1, t) {
         return true;
     }
@@ -192,6 +196,7 @@ fn compute(
 fn computes(
     op: Op,
     t: Count,
+    flying: bool,
     value: &[u32; 288],
     ready: &[u64; 288],
     delays: Delays,
@@ -203,13 +208,13 @@ fn computes(
     requires { ⌜ Formed op ⌝ }
     requires { ⌜ Timely delays ⌝ }
     requires { ⌜ Results (now reg) (now val) (now del) (s .results) ⌝ }
-    requires { ⌜ (s .results < 63) × (0 < op .opcode) × (op .opcode ≤ 51) ⌝ }
+    requires { ⌜ (s .results < 63) × (0 < op .opcode) × (op .opcode ≤ 51) × (flying ≡ false → opLate (t .0) (now ready) op ≡ false) ⌝ }
     ensures { λ r. ⌜ ((m : List ℕ) (j : ℕ) (ps ws ns : List ℕ) → Stores ps ws ns (s .stores) (length m)
         → Does (opLate (t .0) (now (ready .entry)) op) delays m j (fireAt (now (value .entry)) op)
         s (scratch (now (reg .entry)) (now (val .entry)) (now (del .entry)) ps ws ns)
         r (scratch (now (reg .exit)) (now (val .exit)) (now (del .exit)) ps ws ns)) ⌝ }
 {
-    if late(op, ready, t) {
+    if late(op, ready, flying, t) {
         return held(s);
     }
     let results = compute(op, value, delays, s.results, reg, val, del);
@@ -230,6 +235,7 @@ fn computes(
 fn copies(
     op: Op,
     t: Count,
+    flying: bool,
     value: &[u32; 288],
     ready: &[u64; 288],
     delays: Delays,
@@ -241,13 +247,13 @@ fn copies(
     requires { ⌜ Formed op ⌝ }
     requires { ⌜ Timely delays ⌝ }
     requires { ⌜ Results (now reg) (now val) (now del) (s .results) ⌝ }
-    requires { ⌜ (s .results < 63) × (op .opcode ≡ 60) ⌝ }
+    requires { ⌜ (s .results < 63) × (op .opcode ≡ 60) × (flying ≡ false → opLate (t .0) (now ready) op ≡ false) ⌝ }
     ensures { λ r. ⌜ ((m : List ℕ) (j : ℕ) (ps ws ns : List ℕ) → Stores ps ws ns (s .stores) (length m)
         → Does (opLate (t .0) (now (ready .entry)) op) delays m j (fireAt (now (value .entry)) op)
         s (scratch (now (reg .entry)) (now (val .entry)) (now (del .entry)) ps ws ns)
         r (scratch (now (reg .exit)) (now (val .exit)) (now (del .exit)) ps ws ns)) ⌝ }
 {
-    if late(op, ready, t) {
+    if late(op, ready, flying, t) {
         return held(s);
     }
     let v = ticks::made(value, op.s1);
@@ -352,6 +358,7 @@ fn access(
         s (scratch (now (reg .entry)) (now (val .entry)) (now (del .entry)) (now (offsets .entry)) (now (contents .entry)) (now (sizes .entry)))
         r (scratch (now (reg .exit)) (now (val .exit)) (now (del .exit)) (now (offsets .exit)) (now (contents .exit)) (now (sizes .exit)))) ⌝ }
 {
+    let fault = s.fault;
     let course = s.course;
     let place = s.place;
     let n = memory::size(op.opcode);
@@ -369,7 +376,7 @@ fn access(
                 let results = load(op, a, memory, delays, s.results, reg, val, del);
                 return Seen {
                     busy: s.busy,
-                    fault: FirstFault::None,
+                    fault,
                     results,
                     stores: s.stores,
                     course,
@@ -379,7 +386,7 @@ fn access(
             store(op, value, a, n, s.stores, offsets, contents, sizes);
             Seen {
                 busy: s.busy,
-                fault: FirstFault::None,
+                fault,
                 results: s.results,
                 stores: s.stores + 1,
                 course,
@@ -393,6 +400,7 @@ fn access(
 fn accesses(
     op: Op,
     t: Count,
+    flying: bool,
     value: &[u32; 288],
     ready: &[u64; 288],
     memory: &[u8],
@@ -408,12 +416,12 @@ fn accesses(
     requires { ⌜ Formed op ⌝ }
     requires { ⌜ Timely delays ⌝ }
     requires { ⌜ Holds (length (now memory)) s (scratch (now reg) (now val) (now del) (now offsets) (now contents) (now sizes)) ⌝ }
-    requires { ⌜ (s .results < 63) × (s .stores < 32) × (isMem (op .opcode) ≡ true) ⌝ }
+    requires { ⌜ (s .results < 63) × (s .stores < 32) × (isMem (op .opcode) ≡ true) × (flying ≡ false → opLate (t .0) (now ready) op ≡ false) ⌝ }
     ensures { λ r. ⌜ ((j : ℕ) → Does (opLate (t .0) (now (ready .entry)) op) delays (now (memory .entry)) j (fireAt (now (value .entry)) op)
         s (scratch (now (reg .entry)) (now (val .entry)) (now (del .entry)) (now (offsets .entry)) (now (contents .entry)) (now (sizes .entry)))
         r (scratch (now (reg .exit)) (now (val .exit)) (now (del .exit)) (now (offsets .exit)) (now (contents .exit)) (now (sizes .exit)))) ⌝ }
 {
-    if late(op, ready, t) {
+    if late(op, ready, flying, t) {
         return held(s);
     }
     let fault = s.fault;
@@ -489,13 +497,21 @@ fn decide(op: Op, end: Place, value: &[u32; 288], course: Course, place: Place) 
 }
 
 // A control operation.
-fn turns(op: Op, end: Place, t: Count, value: &[u32; 288], ready: &[u64; 288], s: Seen) -> Seen
+fn turns(
+    op: Op,
+    end: Place,
+    t: Count,
+    flying: bool,
+    value: &[u32; 288],
+    ready: &[u64; 288],
+    s: Seen,
+) -> Seen
     requires { ⌜ Formed op ⌝ }
-    requires { ⌜ isTurn (op .opcode) ≡ true ⌝ }
+    requires { ⌜ (isTurn (op .opcode) ≡ true) × (flying ≡ false → opLate (t .0) (now ready) op ≡ false) ⌝ }
     ensures { λ r. ⌜ ((d : Delays) (m : List ℕ) (a : Scratch) → Holds (length m) s a
         → Does (opLate (t .0) (now (ready .entry)) op) d m (end .0) (fireAt (now (value .entry)) op) s a r a) ⌝ }
 {
-    if late(op, ready, t) {
+    if late(op, ready, flying, t) {
         return held(s);
     }
     let fault = s.fault;
@@ -516,12 +532,13 @@ fn turns(op: Op, end: Place, t: Count, value: &[u32; 288], ready: &[u64; 288], s
 
 // ---- the pass
 
-// Syllable w of cluster c. It is decoded and done by the range of its opcode, so that the compiled code tests it once.
+// Syllable w of cluster c. It is decoded and done by the range of its opcode, so that the compiled code tests it once. Opcode 0 names no register.
 fn step(
     c: u32,
     w: u32,
     end: Place,
     t: Count,
+    flying: bool,
     value: &[u32; 288],
     ready: &[u64; 288],
     memory: &[u8],
@@ -537,19 +554,20 @@ fn step(
     requires { ⌜ c < 4 ⌝ }
     requires { ⌜ Timely delays ⌝ }
     requires { ⌜ Holds (length (now memory)) s (scratch (now reg) (now val) (now del) (now offsets) (now contents) (now sizes)) ⌝ }
-    requires { ⌜ (s .results < 63) × (s .stores < 32) ⌝ }
+    requires { ⌜ (s .results < 63) × (s .stores < 32) × Flying flying (t .0) (now ready) ⌝ }
     ensures { λ r. ⌜ Does (opLate (t .0) (now (ready .entry)) (decode c w)) delays (now (memory .entry)) (end .0) (fireAt (now (value .entry)) (decode c w))
         s (scratch (now (reg .entry)) (now (val .entry)) (now (del .entry)) (now (offsets .entry)) (now (contents .entry)) (now (sizes .entry)))
         r (scratch (now (reg .exit)) (now (val .exit)) (now (del .exit)) (now (offsets .exit)) (now (contents .exit)) (now (sizes .exit))) ⌝ }
 {
     let o = opcode(w);
     if o == 0 {
-        return turns(decode::still(w), end, t, value, ready, s);
+        return turns(decode::still(w), end, t, false, value, ready, s);
     }
     if o <= 51 {
         return computes(
             decode::compute(c, w),
             t,
+            flying,
             value,
             ready,
             delays,
@@ -563,6 +581,7 @@ fn step(
         return accesses(
             decode::access(c, w),
             t,
+            flying,
             value,
             ready,
             memory,
@@ -580,6 +599,7 @@ fn step(
         return copies(
             decode::copy(c, w),
             t,
+            flying,
             value,
             ready,
             delays,
@@ -589,14 +609,15 @@ fn step(
             del,
         );
     }
-    turns(decode::jump(c, w), end, t, value, ready, s)
+    turns(decode::jump(c, w), end, t, flying, value, ready, s)
 }
 
-// All operations of the instruction of this stretch, which `end` follows.
+// All operations of the instruction of this stretch, which `end` follows. `flying`: whether a register may be in flight at tick t.
 pub fn collect(
     stretch: &[u8],
     end: Place,
     t: Count,
+    flying: bool,
     value: &[u32; 288],
     ready: &[u64; 288],
     memory: &[u8],
@@ -612,6 +633,7 @@ pub fn collect(
     requires { ⌜ Timely delays ⌝ }
     requires { ⌜ Results (now reg) (now val) (now del) 0 ⌝ }
     requires { ⌜ Stores (now offsets) (now contents) (now sizes) 0 (length (now memory)) ⌝ }
+    requires { ⌜ Flying flying (t .0) (now ready) ⌝ }
     ensures { λ r. ⌜ Gathered (opLate (t .0) (now (ready .entry))) (fireAt (now (value .entry))) delays
         (now (memory .entry)) (end .0) (map operation (spots (words (now (stretch .entry))))) r
         (scratch (now (reg .exit)) (now (val .exit)) (now (del .exit)) (now (offsets .exit)) (now (contents .exit)) (now (sizes .exit))) ⌝ }
@@ -633,6 +655,7 @@ pub fn collect(
             w,
             end,
             t,
+            flying,
             value,
             ready,
             memory,

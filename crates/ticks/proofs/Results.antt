@@ -1,6 +1,7 @@
 -- Laws of the results that the loop's arrays hold: of one more result, of the landing bytes that they take, and of putting them one by one.
 use mathlib.Core.Path.{_≡_, refl, _∙_, ap, sym}
-use mathlib.Core.List.{List, [], _∷_, _++_}
+use mathlib.Core.Logic.{_≢_}
+use mathlib.Core.List.{List, [], _∷_, _++_, List·Memᴰ, List·Memᴰ·head, List·Memᴰ·tail, Pairwise, Pairwise·cons}
 use Prim.Native.Nat.{ℕ, zero, suc, _+_, _-_, _%_, _≤_, _<_}
 use native.Mathlib.Omega.{arith}
 use native.Mathlib.Nat.{mod-lt, add-zero, add-suc}
@@ -11,7 +12,7 @@ use borrow.Author.Count.{below-none, below-more}
 use Rattle.vliw.specs.Cell.{Registers, put, puts, choose, others}
 use Rattle.vliw.specs.Machine.{Dest, writes, bytesLeft}
 use Rattle.vliw.proofs.Order.{result}
-use Rattle.ticks.specs.Ticks.{zipDests, destsIn, valuesIn, Results}
+use Rattle.ticks.specs.Ticks.{zipDests, destsIn, valuesIn, Results, Clear}
 
 -- ---- the landing bytes
 
@@ -61,9 +62,24 @@ each-more : (P : ℕ → Type 0) (l : List ℕ) (n x : ℕ) → n < length l →
 each-more P l n x b h p =
     below-more (λ k. P (getD (set l n x) k 0)) n (λ k i. rw (getD-set-other l n k x 0 (omega arith)) (h k i)) (rw (getD-set-same l n x 0 b) p)
 
+-- after the first is put the others are as clear
+clear-others : {t : ℕ} {ls ns : List ℕ} (d : Dest) (ds : List Dest) → ((q : ℕ) → q ≢ d .reg → getD ns q 0 ≡ getD ls q 0) → Clear t ls (d ∷ ds) → Clear t ns ds
+clear-others {t} {ls} {ns} d ds e c = by (c .apart)
+  where
+    by : Pairwise (λ (d e : Dest). d .reg ≢ e .reg) (d ∷ ds) → Clear t ns ds
+    by (Pairwise·cons h p) =
+        record {
+          landed = λ x m. rw (e (x .reg) (λ q. h x ∣ m ∣₁ (sym q))) (c .landed x (List·Memᴰ·tail m));
+          apart = p;
+        }
+
+-- the destinations from k on
+abbrev pub destsFrom : List ℕ → List ℕ → ℕ → ℕ → List Dest
+destsFrom gs ds n k = zipDests (slice k n gs) (slice k n ds)
+
 -- the results from k on, put over the registers
 abbrev pub putFrom : List ℕ → List ℕ → List ℕ → ℕ → List ℕ → ℕ → ℕ → Registers → Registers
-putFrom gs vs ds n bs u k = puts (writes (zipDests (slice k n gs) (slice k n ds)) (slice k n vs) (drop (u + k) bs))
+putFrom gs vs ds n bs u k = puts (writes (destsFrom gs ds n k) (slice k n vs) (drop (u + k) bs))
 
 module _ {gs vs ds : List ℕ} {n : ℕ} (z : Results gs vs ds n) where
   -- an instruction starts with none
@@ -98,6 +114,19 @@ module _ {gs vs ds : List ℕ} {n : ℕ} (z : Results gs vs ds n) where
 
     pub note-values : valuesIn (set vs n v) (n + 1) ≡ valuesIn vs n ++ (v ∷ [])
     note-values = rw (add-one n, take-suc-set vs n v (omega (arith, z .values)))
+
+  -- of those that are left, the first and the others
+  module _ (k : ℕ) (h : k < n) where
+    dests-from : destsFrom gs ds n k ≡ record { reg = getD gs k 0; delay = getD ds k 0 } ∷ destsFrom gs ds n (k + 1)
+    dests-from =
+        rw (slice-cons k n gs 0 h (omega (arith, z .registers, z .few)), slice-cons k n ds 0 h (omega (arith, z .delays, z .few)), add-one k)
+
+    pub clear-first : {t : ℕ} {ls : List ℕ} → Clear t ls (destsFrom gs ds n k) → getD ls (getD gs k 0) 0 ≤ t
+    clear-first c = (rw dests-from at c) .landed _ (List·Memᴰ·head refl)
+
+    pub clear-rest : {t : ℕ} {ls ns : List ℕ} → Clear t ls (destsFrom gs ds n k) → ((q : ℕ) → q ≢ getD gs k 0 → getD ns q 0 ≡ getD ls q 0)
+        → Clear t ns (destsFrom gs ds n (k + 1))
+    clear-rest c e = clear-others _ _ e (rw dests-from at c)
 
   module _ (bs : List ℕ) (u : ℕ) where
     -- each result takes a landing byte

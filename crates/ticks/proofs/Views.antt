@@ -159,12 +159,13 @@ made-value {t} {vs} {os} {rs} {ls} z r e = rw (le-ltb t (getD ls r 0) (omega (ar
 -- ---- a result
 
 module _ {t : ℕ} {vs os rs ls : List ℕ} (z : Bank t vs os rs ls) (r : ℕ) (h : r < 288) (v b l : ℕ) where
-  pub put-views : views t (set vs r v) (set os r (valueAt t vs os ls r)) (set rs r (t + b)) (set ls r (t + l))
+  -- over the last result made, which has landed
+  pub put-views : getD ls r 0 ≤ t → views t (set vs r v) (set os r (getD vs r 0)) (set rs r (t + b)) (set ls r (t + l))
       ≡ put (record { reg = r; result = v; busy = b; landing = l }) (views t vs os rs ls)
-  put-views =
+  put-views e =
       let p : t + b - t ≡ b = omega arith in
       let q : t + l - t ≡ l = omega arith in
-      zipped-set (viewOf t) vs os rs ls r v (valueAt t vs os ls r) (t + b) (t + l) ∙ rw (p, q, view-value (z .sizes) t r h)
+      zipped-set (viewOf t) vs os rs ls r v (getD vs r 0) (t + b) (t + l) ∙ rw (p, q, view-value (z .sizes) t r h, le-ltb t (getD ls r 0) e)
 
   pub put-bank : (o : ℕ) → l ≤ b → b ≤ 7 → Bank t (set vs r v) (set os r o) (set rs r (t + b)) (set ls r (t + l))
   put-bank o hl hb =

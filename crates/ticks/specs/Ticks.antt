@@ -2,7 +2,8 @@
 -- In the loop a register is four numbers: the last result made, the value that it replaced, and the ticks at which busy reaches 0 and at which it lands.
 -- A tick is an instruction executed in this call. Value, waiting, busy and landing are computed at a tick, so nothing is stored when time passes.
 use mathlib.Core.Path.{_≡_}
-use mathlib.Core.List.{List, [], _∷_}
+use mathlib.Core.Logic.{_≢_}
+use mathlib.Core.List.{List, [], _∷_, List·Memᴰ, Pairwise}
 use Prim.Native.Nat.{ℕ, _+_, _-_, _≤_, _<_}
 use lib.Dec.{ltb}
 use lib.ListN.{length, getD, take}
@@ -80,3 +81,8 @@ pub record Results (gs vs ds : List ℕ) (n : ℕ) : Type 0 where
   pub few : n ≤ 64
   pub register : (k : ℕ) → k < n → getD gs k 0 < 288
   pub delay : (k : ℕ) → k < n → (0 < getD ds k 0) × (getD ds k 0 ≤ 8)
+
+-- each is for a register of its own, which has landed at tick t
+pub record Clear (t : ℕ) (ls : List ℕ) (ds : List Dest) : Type 0 where
+  pub landed : (d : Dest) → List·Memᴰ d ds → getD ls (d .reg) 0 ≤ t
+  pub apart : Pairwise (λ (d e : Dest). d .reg ≢ e .reg) ds

@@ -3,6 +3,7 @@ use isa::Count;
 use isa::Place;
 use machine::State;
 ghost use mathlib.Core.Path.{_≡_};
+ghost use mathlib.Core.Logic.{_≢_};
 ghost use mathlib.Core.List.{_++_, _∷_, []};
 ghost use Prim.Native.Nat.{ℕ, _+_, _-_, _≤_, _<_};
 ghost use lib.Dec.{ltb};
@@ -12,7 +13,7 @@ ghost use lib.Seq.{sets, slice};
 ghost use Rattle.vliw.specs.Cell.{at, landedOf, put, puts, choose};
 ghost use Rattle.vliw.specs.Machine.{writes};
 ghost use Rattle.machine.specs.State.{cells, registersOf, Sized};
-ghost use Rattle.ticks.specs.Ticks.{Sizes, views, valueAt, waitingAt, Bank, Freed, latest, Fit, destsIn, valuesIn, Results};
+ghost use Rattle.ticks.specs.Ticks.{Sizes, views, valueAt, waitingAt, Bank, Freed, latest, Fit, destsIn, valuesIn, Results, Clear};
 
 // The last result made for register r: its value, unless it is in flight.
 pub fn made(value: &[u32; 288], r: u32) -> u32
@@ -59,10 +60,10 @@ pub fn any_late(ready: &[u64; 288], free: Count, t: Count) -> bool
 fn later(a: Count, b: Count) -> Count
     ensures { λ r. ⌜ r .0 ≡ latest (a .0) (b .0 ∷ []) ⌝ }
 {
-    if a.0 < b.0 { b } else { a }
+    if b.0 <= a.0 { a } else { b }
 }
 
-// A result v for register r, busy for b more ticks, that lands after l of them.
+// A result v for register r, which has landed, busy for b more ticks, that lands after l of them.
 fn put_one(
     value: &mut [u32; 288],
     old: &mut [u32; 288],
@@ -75,15 +76,16 @@ fn put_one(
     t: Count,
 )
     requires { ⌜ Bank (t .0) (now value) (now old) (now ready) (now land) ⌝ }
-    requires { ⌜ (r < 288) × (l ≤ b) × (b ≤ 7) × (t .0 ≤ 4294967296) ⌝ }
+    requires { ⌜ (r < 288) × (l ≤ b) × (b ≤ 7) × (t .0 ≤ 4294967296) × (getD (now land) r 0 ≤ t .0) ⌝ }
     ensures bank { λ _. ⌜ Bank (t .0) (now (value .exit)) (now (old .exit)) (now (ready .exit)) (now (land .exit)) ⌝ }
     ensures freed { λ _. ⌜ ((free : ℕ) → (0 < b → t .0 + b ≤ free) → Freed (t .0) free (now (ready .entry)) → Freed (t .0) free (now (ready .exit))) ⌝ }
+    ensures elsewhere { λ _. ⌜ ((q : ℕ) → q ≢ r → getD (now (land .exit)) q 0 ≡ getD (now (land .entry)) q 0) ⌝ }
     ensures is { λ _. ⌜ views (t .0) (now (value .exit)) (now (old .exit)) (now (ready .exit)) (now (land .exit))
         ≡ put (record { reg = r; result = v; busy = b; landing = l })
         (views (t .0) (now (value .entry)) (now (old .entry)) (now (ready .entry)) (now (land .entry))) ⌝ }
 {
     let i = r as usize;
-    old[i] = read(value, old, land, r, t);
+    old[i] = made(value, r);
     value[i] = v;
     ready[i] = t.0 + b;
     land[i] = t.0 + l;
@@ -124,9 +126,10 @@ fn commit_one(
 ) -> Count
     requires { ⌜ Bank (t .0) (now value) (now old) (now ready) (now land) ⌝ }
     requires { ⌜ Freed (t .0) (free .0) (now ready) ⌝ }
-    requires { ⌜ (r < 288) × (0 < l) × (l ≤ 8) × (t .0 ≤ 4294967296) ⌝ }
+    requires { ⌜ (r < 288) × (0 < l) × (l ≤ 8) × (t .0 ≤ 4294967296) × (getD (now land) r 0 ≤ t .0) ⌝ }
     ensures bank { λ _. ⌜ Bank (t .0) (now (value .exit)) (now (old .exit)) (now (ready .exit)) (now (land .exit)) ⌝ }
     ensures freed { λ r. ⌜ Freed (t .0) (r .0) (now (ready .exit)) ⌝ }
+    ensures elsewhere { λ _. ⌜ ((q : ℕ) → q ≢ r → getD (now (land .exit)) q 0 ≡ getD (now (land .entry)) q 0) ⌝ }
     ensures is { λ _. ⌜ views (t .0) (now (value .exit)) (now (old .exit)) (now (ready .exit)) (now (land .exit))
         ≡ put (record { reg = r; result = v; busy = l - 1; landing = choose l (drop i (now (landing .entry))) })
         (views (t .0) (now (value .entry)) (now (old .entry)) (now (ready .entry)) (now (land .entry))) ⌝ }
@@ -154,6 +157,7 @@ fn commit_with(
     requires { ⌜ Bank (t .0) (now value) (now old) (now ready) (now land) ⌝ }
     requires { ⌜ Freed (t .0) (free .0) (now ready) ⌝ }
     requires { ⌜ Results (now reg) (now val) (now del) count ⌝ }
+    requires { ⌜ Clear (t .0) (now land) (destsIn (now reg) (now del) count) ⌝ }
     requires { ⌜ (t .0 ≤ 4294967296) × (used + count < 18446744073709551616) ⌝ }
     ensures bank { λ _. ⌜ Bank (t .0) (now (value .exit)) (now (old .exit)) (now (ready .exit)) (now (land .exit)) ⌝ }
     ensures freed { λ r. ⌜ Freed (t .0) (r .0) (now (ready .exit)) ⌝ }
@@ -194,9 +198,10 @@ fn commit_full(
 ) -> Count
     requires { ⌜ Bank (t .0) (now value) (now old) (now ready) (now land) ⌝ }
     requires { ⌜ Freed (t .0) (free .0) (now ready) ⌝ }
-    requires { ⌜ (r < 288) × (0 < l) × (l ≤ 8) × (t .0 ≤ 4294967296) ⌝ }
+    requires { ⌜ (r < 288) × (0 < l) × (l ≤ 8) × (t .0 ≤ 4294967296) × (getD (now land) r 0 ≤ t .0) ⌝ }
     ensures bank { λ _. ⌜ Bank (t .0) (now (value .exit)) (now (old .exit)) (now (ready .exit)) (now (land .exit)) ⌝ }
     ensures freed { λ r. ⌜ Freed (t .0) (r .0) (now (ready .exit)) ⌝ }
+    ensures elsewhere { λ _. ⌜ ((q : ℕ) → q ≢ r → getD (now (land .exit)) q 0 ≡ getD (now (land .entry)) q 0) ⌝ }
     ensures is { λ _. ⌜ views (t .0) (now (value .exit)) (now (old .exit)) (now (ready .exit)) (now (land .exit))
         ≡ put (record { reg = r; result = v; busy = l - 1; landing = l - 1 })
         (views (t .0) (now (value .entry)) (now (old .entry)) (now (ready .entry)) (now (land .entry))) ⌝ }
@@ -221,6 +226,7 @@ fn commit_rest(
     requires { ⌜ Bank (t .0) (now value) (now old) (now ready) (now land) ⌝ }
     requires { ⌜ Freed (t .0) (free .0) (now ready) ⌝ }
     requires { ⌜ Results (now reg) (now val) (now del) count ⌝ }
+    requires { ⌜ Clear (t .0) (now land) (destsIn (now reg) (now del) count) ⌝ }
     requires { ⌜ t .0 ≤ 4294967296 ⌝ }
     ensures bank { λ _. ⌜ Bank (t .0) (now (value .exit)) (now (old .exit)) (now (ready .exit)) (now (land .exit)) ⌝ }
     ensures freed { λ r. ⌜ Freed (t .0) (r .0) (now (ready .exit)) ⌝ }
@@ -254,6 +260,7 @@ pub fn commit(
     requires { ⌜ Bank (t .0) (now value) (now old) (now ready) (now land) ⌝ }
     requires { ⌜ Freed (t .0) (free .0) (now ready) ⌝ }
     requires { ⌜ Results (now reg) (now val) (now del) count ⌝ }
+    requires { ⌜ Clear (t .0) (now land) (destsIn (now reg) (now del) count) ⌝ }
     requires { ⌜ (t .0 ≤ 4294967296) × (used + count < 18446744073709551616) ⌝ }
     ensures bank { λ _. ⌜ Bank (t .0) (now (value .exit)) (now (old .exit)) (now (ready .exit)) (now (land .exit)) ⌝ }
     ensures freed { λ r. ⌜ Freed (t .0) (r .0) (now (ready .exit)) ⌝ }

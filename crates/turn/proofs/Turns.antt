@@ -1,20 +1,22 @@
 -- Laws of one turn of the run's loop: how it ends from what the pass gathered.
 use mathlib.Core.Path.{_≡_, refl, sym, ap, subst, _∙_}
-use mathlib.Core.Logic.{_≢_}
+use mathlib.Core.Logic.{_≢_, ⊎-elim}
 use mathlib.Core.Bool.{Bool, true, false, _||_, _&&_, false≢true}
 use mathlib.Core.List.{List, [], _∷_, _++_, map, List·Memᴰ, List·Memᴰ·head, List·Memᴰ·tail}
-use Prim.Native.Nat.{ℕ, zero, suc, _+_, _/_, _^_, _<_}
+use Prim.Native.Nat.{ℕ, zero, suc, _+_, _/_, _^_, _≤_, _<_}
 use native.Mathlib.Nat.{le-refl, le-step}
 use native.Mathlib.Omega.{arith}
 use lib.Dec.{ltb}
 use lib.ListN.{length, getD, drop}
 use lib.Seq.{getD-set-other}
 use borrow.Author.Count.{below-none}
-use borrow.Author.Tests.{not-true, not-false}
+use borrow.Author.Tests.{ltb-true, ltb-false, ne-eqb, not-true, not-false}
 use Rattle.word.specs.Choice.{pick}
 use Rattle.word.specs.Lists.{any, anyBelow}
 use Rattle.word.specs.Bytes.{words}
 use Rattle.word.proofs.Bytes.{words-length}
+use Rattle.word.proofs.Choice.{by-test, or-false}
+use Rattle.word.proofs.Lists.{any-false-in}
 use Rattle.vliw.specs.Run.{ends}
 use Rattle.vliw.specs.Cell.{Cell, Registers, still, at, puts, others}
 use Rattle.vliw.specs.Machine.{Situation, Dest, Out, fault, go, writes, bytesLeft, stores, step}
@@ -40,10 +42,10 @@ use Rattle.machine.specs.Instruction.{Fired, fire, resultValues, storesOf, faul
 use Rattle.machine.specs.Instruction.{at as goesTo}
 use Rattle.machine.proofs.Acts.{calls-by}
 use Rattle.machine.proofs.Linking.{byLink, reads-by-link}
-use Rattle.ticks.specs.Ticks.{views, Bank, Freed, destsIn, valuesIn, Results}
+use Rattle.ticks.specs.Ticks.{views, Bank, Freed, destsIn, valuesIn, Results, Clear}
 use Rattle.ticks.proofs.Views.{views-aged, view-busy, view-late}
 use Rattle.ticks.proofs.Results.{bytes-left}
-use Rattle.gather.specs.Gather.{opBusy, nextFrom, turnIn, opLate, fireAt, Scratch, Lists, fired, Came, Gathered}
+use Rattle.gather.specs.Gather.{opBusy, nextFrom, turnIn, Flying, namedLate, opLate, fireAt, Scratch, Lists, fired, Came, Gathered}
 use Rattle.gather.specs.declared.Seen.{Seen}
 use Rattle.gather.specs.declared.Course.{Course}
 use Rattle.gather.specs.declared.Course.the-variants.{Open, Stop, Set, Call, Back}
@@ -72,6 +74,16 @@ module _ {d : Delays} {m : List ℕ} {s : Seen} {a : Scratch} where
       let g = k .holds .results in
       let t = k .holds .stores in
       record { registers = g .registers; results = g .values; delays = g .delays; offsets = t .places; contents = t .values; sizes = t .sizes }
+
+-- from tick `top` on no register is in flight, and register 0 never is
+pub flying-before : {t top : ℕ} {link : Link} {p vs os rs ls : List ℕ} (i : ℕ) → Running t top p i link vs os rs ls → Flying (ltb t top) t rs
+flying-before {t} {top} {rs = rs} i here =
+    record {
+      nothing = omega (arith, here .idle, view-busy (here .bank .sizes) t 0 (omega arith));
+      others = λ e r.
+          ⊎-elim (λ h. let b = ltb-true t (getD rs r 0) h in absurd (omega (arith, here .freed r b, ltb-false t top e)))
+          (λ h. ltb-false t (getD rs r 0) h) (by-test (ltb t (getD rs r 0)));
+    }
 
 -- an instruction starts with no results and no stores
 pub room-results : {gs xs ds ps ws ns : List ℕ} → Room gs xs ds ps ws ns → Results gs xs ds 0
@@ -206,6 +218,52 @@ halts s late link shared = by (s .busy) refl (isStop (s .course)) refl (links (s
     by false e false h false n true k = lost e n k
     by false e false h false n false k = fault e n (record { goes = h; found = k }) (s .fault) refl
 
+-- what is so of a turn that goes on
+abbrev Going : Seen → Bool → Link → Bool → Type 0
+Going s late link shared = (s .busy ≡ false) × (links (s .course) && late ≡ false) × Ahead s link × (s .fault ≡ None) × (shared ≡ false)
+
+going : (s : Seen) (late : Bool) (link : Link) (shared : Bool) → Nothing ≡ haltOf s late link shared → Going s late link shared
+going s late link shared on = by (halts s late link shared)
+  where
+    Goes : Halt → Type 0
+    Goes Nothing = Going s late link shared
+    Goes (Ends x) = Unit {0}
+
+    goes : {h : Halt} → Halts s late link shared h → Goes h
+    goes (in-flight f) = tt
+    goes (stopped f h) = tt
+    goes (held-up f n) = tt
+    goes (lost f n x) = tt
+    goes (faulted f n h y) = tt
+    goes (clashes f n h y z) = tt
+    goes (goes-on f n h y z) = (f, n, h, y, z)
+
+    by : Halts s late link shared (haltOf s late link shared) → Going s late link shared
+    by x = rw (← on) at (goes x)
+
+-- what an operation writes that is not late has landed
+results-landed : {t : ℕ} {vs os rs ls : List ℕ} → Bank t vs os rs ls → (o : Op) → opLate t rs o ≡ false
+    → (o .t ≢ 0 → getD ls (o .t) 0 ≤ t + 1) × (o .carry ≢ 0 → getD ls (o .carry) 0 ≤ t + 1)
+results-landed {t} {rs = rs} z o f =
+    let read = ltb t (getD rs (o .s1) 0) || ltb t (getD rs (o .s2) 0) || namedLate t rs (o .b) || namedLate t rs (o .stored) in
+    let (g, c) = or-false (read || ltb t (getD rs (o .t) 0)) (namedLate t rs (o .carry)) f in
+    let (_, b) = or-false read (ltb t (getD rs (o .t) 0)) g in (
+      λ n. omega (arith, z .low (o .t), ltb-false t (getD rs (o .t) 0) b),
+      λ n. omega (arith, z .low (o .carry), ltb-false t (getD rs (o .carry) 0) (rw (ne-eqb (o .carry) 0 n) at c)),
+    )
+
+-- what it writes is clear: its registers were not in flight, and loading refuses two results for one
+pub written-clear : {d : Delays} {p : List ℕ} {t top : ℕ} {place : Place} {link : Link} {vs os rs ls m : List ℕ} {s : Seen} {a : Scratch} {j : ℕ} (late shared : Bool) (w : List ℕ)
+    → Runs d p → Running t top p (place .0) link vs os rs ls → spots w ≡ instructionAt p (place .0) → Gathered (opLate t rs) (fireAt vs) d m j (map operation (spots w)) s a
+    → Nothing ≡ haltOf s late link shared → Clear (t + 1) ls (destsIn (a .regs) (a .dels) (s .results))
+written-clear {d} {p} {t} {link = link} {rs = rs} {ls = ls} {s = s} late shared w runs here e k on =
+    let (free, _, _, good, _) = going s late link shared on in
+    rw (k .came free .lists good .dests)
+    record {
+      landed = dests-have (λ r. getD ls r 0 ≤ t + 1) (map operation (spots w)) (λ o m. results-landed (here .bank) o (any-false-in (opLate t rs) _ (sym (k .busy) ∙ free) m)) d;
+      apart = rw e (runs .loaded .apart _ (here .start));
+    }
+
 module _ {d : Delays} {p : List ℕ} {t top : ℕ} {place : Place} {link : Link} {vs os rs ls m : List ℕ} {s : Seen} {a : Scratch} (runs : Runs d p) (here : Running t top p (place .0) link vs os rs ls)
     (k : Gathered (opBusy (views t vs os rs ls)) (fire (map (λ (c : Cell). c .value) (views t vs os rs ls))) d m (following p (place .0)) (operationsAt p (place .0)) s a) (landing : List ℕ) (used : ℕ) where
   abbrev i : ℕ
@@ -338,23 +396,7 @@ module _ {d : Delays} {p : List ℕ} {t top : ℕ} {place : Place} {link : Link}
         }
 
     pub turn-went : Moved d p landing t used from to (s .results) until (linkAfter (s .course) link after) us qs bs ns m′
-    turn-went = by (halts s (anyLate t rs) link (anyShare held))
-      where
-        Free : Halt → Type 0
-        Free Nothing = Moved d p landing t used from to (s .results) until (linkAfter (s .course) link after) us qs bs ns m′
-        Free (Ends x) = Unit {0}
-
-        free : {h : Halt} → Halts s (anyLate t rs) link (anyShare held) h → Free h
-        free (in-flight f) = tt
-        free (stopped f h) = tt
-        free (held-up f n) = tt
-        free (lost f n x) = tt
-        free (faulted f n h y) = tt
-        free (clashes f n h y z) = tt
-        free (goes-on f n h y z) = turn-on f n h y z
-
-        by : Halts s (anyLate t rs) link (anyShare held) (haltOf s (anyLate t rs) link (anyShare held)) → Moved d p landing t used from to (s .results) until (linkAfter (s .course) link after) us qs bs ns m′
-        by x = rw (← on) at (free x)
+    turn-went = let (free, n, h, good, apart) = going s (anyLate t rs) link (anyShare held) on in turn-on free n h good apart
 
     -- where it is neither call nor return
     pub turn-kept : links (s .course) ≡ false → Moved d p landing t used from to (s .results) until link us qs bs ns m′

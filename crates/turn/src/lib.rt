@@ -215,10 +215,12 @@ pub fn step(
 {
     let stretch = cut(program, at);
     let end = Place(at.0 + stretch.len() / 4);
+    let flying = t.0 < free.0;
     let s = collect(
         stretch,
         end,
         t,
+        flying,
         value,
         ready,
         memory,

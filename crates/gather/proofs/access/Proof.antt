@@ -30,7 +30,7 @@ returns : tie.Need-returns
 returns c =
     let p = c .before .before .before .before .before .before .before .before .before .before .before .before .before .before .pre in
     let to = sym (c .before .before .before .before .before .before .before .a .given .1) ∙ went (c .before .before .before .before .before .before .before .before .before) in
-    λ j. loads (p .1 .1 .0) (p .0) (p .1 .1 .1 .2) (p .1 .1 .1 .3) to (c .before .before .before .before .if1 .taken) (c .load .ensures)
+    λ j. loads (p .1 .1 .0) (p .0) (p .1 .1 .1 .2) to (c .before .before .before .before .if1 .taken) (c .load .ensures)
 
 returns-2 : tie.Need-returns-2
 returns-2 c =
@@ -47,7 +47,7 @@ returns-3 c =
     let n = c .before .store .ensures in
     let to = sym (c .before .before .before .before .before .before .before .before .a .given .1) ∙ went q in
     let w = access-within _ (c .before .before .before .before .before .before .before .before .before .before .before .before .size .ensures .1) (sym (q .access-at .ensures) ∙ c .before .before .before .before .before .before .before .before .a .given .1) in
-    λ j. lays (p .1 .1 .0) (p .0) (p .1 .1 .1 .2) (p .1 .1 .1 .3) to (c .before .before .before .before .before .before .before .before .before .before .before .before .size .ensures .0) (c .before .before .before .before .before .if1 .left) (n .1 _ w (p .1 .1 .0 .stores)) (n .0)
+    λ j. lays (p .1 .1 .0) (p .0) (p .1 .1 .1 .2) to (c .before .before .before .before .before .before .before .before .before .before .before .before .size .ensures .0) (c .before .before .before .before .before .if1 .left) (n .1 _ w (p .1 .1 .0 .stores)) (n .0)
 
 pub access-spec : {M : Type 1} → statement M
 access-spec =

@@ -15,16 +15,16 @@ use Rattle.gather.proofs.collect.Statement.{statement}
 use Rattle.gather.proofs.collect.Tie as tie
 
 abbrev Inv-loop : tie.InvT-loop
-Inv-loop stretch end t value ready memory delays reg₀ val₀ del₀ offsets₀ contents₀ sizes₀ s₀ clusters₀ j₀ j-end reg val del offsets contents sizes s clusters j =
+Inv-loop stretch end t flying value ready memory delays reg₀ val₀ del₀ offsets₀ contents₀ sizes₀ s₀ clusters₀ j₀ j-end reg val del offsets contents sizes s clusters j =
     (j ≤ j-end) × (clusters ≡ spotBefore (words stretch) j .opened)
     × Gathered (opLate (t .0) ready) (fireAt value) delays memory (end .0) (map operation (take j (spots (words stretch)))) s (scratch reg val del offsets contents sizes)
 
 abbrev μ-loop : tie.MeasureT-loop
-μ-loop stretch end t value ready memory delays reg₀ val₀ del₀ offsets₀ contents₀ sizes₀ s₀ clusters₀ j₀ j-end reg val del offsets contents sizes s clusters j =
+μ-loop stretch end t flying value ready memory delays reg₀ val₀ del₀ offsets₀ contents₀ sizes₀ s₀ clusters₀ j₀ j-end reg val del offsets contents sizes s clusters j =
     j-end - j
 
 loop-holds : tie.Need-loop-holds Inv-loop μ-loop
-loop-holds c = let p = c .before .before .pre .1 .1 in (omega arith, refl, gathered-none (p .0) (p .1))
+loop-holds c = let p = c .before .before .pre .1 .1 in (omega arith, refl, gathered-none (p .0) (p .1 .0))
 
 inside : (c : tie.In-loop Inv-loop μ-loop) → c .before .loop .j < length (words (c .before .before .before .before .args .stretch .now))
 inside c = rw words-length (c .loop-test .taken)
@@ -60,7 +60,8 @@ step-requires c κs =
     let s = i .before .before .before .before in
     let ws = words (s .args .stretch .now) in
     let k = i .before .loop .inv .2 in
-    (in-four r, (s .pre .1 .0, (record { results = k .holds .results; stores = k .holds .stores }, room ws (s .pre .0) _ (inside i) k)))
+    let (few, fewer) = room ws (s .pre .0) _ (inside i) k in
+    (in-four r, (s .pre .1 .0, (record { results = k .holds .results; stores = k .holds .stores }, (few, fewer, s .pre .1 .1 .1 .1))))
 
 loop-again : tie.Need-loop-again Inv-loop μ-loop
 loop-again c =

@@ -3,6 +3,7 @@ use mathlib.Core.Path.{sym, _∙_}
 use native.Mathlib.Omega.{arith}
 use Rattle.isa.proofs.Formats.{within-true}
 use Rattle.gather.proofs.Opcodes.{control-first, control-last, formed-as, code-as}
+use Rattle.gather.proofs.Idle.{idle-late, still-late}
 use borrow.Author.Needs.{needs}
 use Rattle.gather.proofs.step.Statement.{statement}
 use Rattle.gather.proofs.step.Tie as tie
@@ -10,7 +11,8 @@ use Rattle.gather.proofs.step.Tie as tie
 turns-requires : tie.Need-turns-requires
 turns-requires c κs =
     let e = c .still .ensures 0 in
-    (formed-as _ _ (omega arith) e, control-first _ (code-as _ _ (omega arith) e ∙ sym (c .before .before .opcode .ensures) ∙ c .before .if1 .taken))
+    let z = sym (c .before .before .opcode .ensures) ∙ c .before .if1 .taken in
+    (formed-as _ _ (omega arith) e, (control-first _ (code-as _ _ (omega arith) e ∙ z), λ _. still-late (c .before .before .before .before .pre .1 .1 .1 .2) _ 0 _ z e))
 
 returns : tie.Need-returns
 returns c =
@@ -27,7 +29,7 @@ computes-requires c κs =
     let p = c .before .before .before .before .before .before .before .before .pre in
     let e = c .before .before .before .compute .ensures in
     let k = code-as _ _ (p .0) e ∙ sym (c .before .before .before .before .before .before .opcode .ensures) in
-    (formed-as _ _ (p .0) e, (p .1 .0, (p .1 .1 .0 .results, (p .1 .1 .1 .0, omega (arith, k, c .before .before .before .before .before .if1 .left), omega (arith, k, c .before .before .before .before .if2 .taken)))))
+    (formed-as _ _ (p .0) e, (p .1 .0, (p .1 .1 .0 .results, (p .1 .1 .1 .0, omega (arith, k, c .before .before .before .before .before .if1 .left), omega (arith, k, c .before .before .before .before .if2 .taken), idle-late (p .1 .1 .1 .2) (c .before .before .before .compute .result)))))
 
 returns-2 : tie.Need-returns-2
 returns-2 c =
@@ -44,7 +46,7 @@ accesses-requires c κs =
     let p = c .before .before .before .before .before .before .before .before .before .before .before .before .pre in
     let e = c .before .before .before .before .before .before .access .ensures in
     let k = code-as _ _ (p .0) e ∙ sym (c .before .before .before .before .before .before .before .before .before .before .opcode .ensures) in
-    (formed-as _ _ (p .0) e, (p .1 .0, (p .1 .1 .0, (p .1 .1 .1 .0, p .1 .1 .1 .1, within-true 52 59 (c .before .before .before .before .before .before .access .result .opcode) (omega (arith, k, c .before .before .before .before .before .before .before .before .if2 .left)) (omega (arith, k, c .before .before .before .before .before .before .before .if3 .taken))))))
+    (formed-as _ _ (p .0) e, (p .1 .0, (p .1 .1 .0, (p .1 .1 .1 .0, p .1 .1 .1 .1, within-true 52 59 (c .before .before .before .before .before .before .access .result .opcode) (omega (arith, k, c .before .before .before .before .before .before .before .before .if2 .left)) (omega (arith, k, c .before .before .before .before .before .before .before .if3 .taken)), idle-late (p .1 .1 .1 .2) (c .before .before .before .before .before .before .access .result)))))
 
 returns-3 : tie.Need-returns-3
 returns-3 c = rw (← c .before .before .before .before .before .before .before .access .ensures) (c .accesses .ensures _)
@@ -59,7 +61,7 @@ copies-requires c κs =
     let p = c .before .before .before .before .before .before .before .before .before .before .pre in
     let e = c .before .before .before .copy .ensures in
     let k = code-as _ _ (p .0) e ∙ sym (c .before .before .before .before .before .before .before .before .opcode .ensures) in
-    (formed-as _ _ (p .0) e, (p .1 .0, (p .1 .1 .0 .results, (p .1 .1 .1 .0, omega (arith, k, c .before .before .before .before .before .if3 .left, c .before .before .before .before .if4 .taken)))))
+    (formed-as _ _ (p .0) e, (p .1 .0, (p .1 .1 .0 .results, (p .1 .1 .1 .0, omega (arith, k, c .before .before .before .before .before .if3 .left, c .before .before .before .before .if4 .taken), idle-late (p .1 .1 .1 .2) (c .before .before .before .copy .result)))))
 
 returns-4 : tie.Need-returns-4
 returns-4 c =
@@ -73,7 +75,7 @@ turns-requires-2 : tie.Need-turns-requires-2
 turns-requires-2 c κs =
     let p = c .before .before .before .before .before .before .before .pre in
     let e = c .jump .ensures in
-    (formed-as _ _ (p .0) e, control-last (c .jump .result .opcode) (omega (arith, code-as _ _ (p .0) e, c .before .before .before .before .before .opcode .ensures, c .before .if4 .left)))
+    (formed-as _ _ (p .0) e, (control-last (c .jump .result .opcode) (omega (arith, code-as _ _ (p .0) e, c .before .before .before .before .before .opcode .ensures, c .before .if4 .left)), idle-late (p .1 .1 .1 .2) (c .jump .result)))
 
 returns-5 : tie.Need-returns-5
 returns-5 c =

@@ -11,7 +11,7 @@ returns c = λ d m a h. held-back (sym (c .before .before .late .ensures) ∙ c 
 returns-2 : tie.Need-returns-2
 returns-2 c =
     let p = c .before .before .before .before .before .pre in
-    λ d m a h. goes-ahead (sym (c .before .before .before .before .late .ensures) ∙ c .before .before .before .if1 .left) (turns h (p .0) (p .1) (c .before .decide .ensures))
+    λ d m a h. goes-ahead (sym (c .before .before .before .before .late .ensures) ∙ c .before .before .before .if1 .left) (turns h (p .0) (p .1 .0) (c .before .decide .ensures))
 
 pub turns-spec : {M : Type 1} → statement M
 turns-spec =

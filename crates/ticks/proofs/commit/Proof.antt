@@ -6,7 +6,7 @@ use Rattle.ticks.proofs.commit.Statement.{statement}
 use Rattle.ticks.proofs.commit.Tie as tie
 
 commit-rest-requires : tie.Need-commit-rest-requires
-commit-rest-requires c κs = let p = c .before .before .before .before .before .before .pre in (p .0, (p .1 .0, (p .1 .1 .0, p .1 .1 .1 .0)))
+commit-rest-requires c κs = let p = c .before .before .before .before .before .before .pre in (p .0, (p .1 .0, (p .1 .1 .0, (p .1 .1 .1 .0, p .1 .1 .1 .1 .0))))
 
 returns : tie.Need-returns
 returns c =

@@ -11,7 +11,7 @@ put-one-requires : tie.Need-put-one-requires
 put-one-requires c κs =
     let h = c .before .before .before .before in
     let p = h .pre .1 .1 in
-    (h .pre .0, (p .0, omega arith, omega (arith, p .2), p .3))
+    (h .pre .0, (p .0, omega arith, omega (arith, p .2), p .3, p .4))
 
 returns : tie.Need-returns
 returns c =

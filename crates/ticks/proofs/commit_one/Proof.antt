@@ -21,7 +21,7 @@ put-one-requires c κs =
     let h = d .before .before in
     let p = h .pre .1 .1 in
     let low = choose-le (h .args .l) (drop (h .args .i) (h .args .landing .now)) (p .1) in
-    (h .pre .0, (p .0, rw (d .chosen .ensures) low, omega (arith, p .2), p .3))
+    (h .pre .0, (p .0, rw (d .chosen .ensures) low, omega (arith, p .2), p .3, p .4))
 
 sub-t18 : tie.Need-sub-t18
 sub-t18 c = search needs
@@ -42,7 +42,7 @@ returns c =
       p .put-one .ensures .0,
       (
         p .put-one .ensures .1 .0 _ (λ b. rw (c .later .ensures) second) (λ q b. rw (c .later .ensures) (le-trans (h .pre .1 .0 q b) first)),
-        rw (d .chosen .ensures) at (p .put-one .ensures .1 .1),
+        (p .put-one .ensures .1 .1 .0, rw (d .chosen .ensures) at (p .put-one .ensures .1 .1 .1)),
       ),
     )
 

@@ -1,6 +1,7 @@
 -- The turn ends as what the pass gathered says; else everything is written.
 use mathlib.Core.Path.{_≡_, sym, _∙_}
 use mathlib.Core.Bool.{false}
+use mathlib.Core.List.{[]}
 use Prim.Native.Nat.{_<_}
 use native.Mathlib.Omega.{arith}
 use lib.ListN.{length}
@@ -10,7 +11,7 @@ use Rattle.isa.specs.Program.{following}
 use Rattle.isa.proofs.Instructions.{start-inside, following-within}
 use Rattle.ticks.proofs.Views.{bank-later}
 use Rattle.turn.specs.Turn.{links}
-use Rattle.turn.proofs.Turns.{end-follows, gathered, room-left, room-results, room-stores, turn-off, turn-went, turn-kept}
+use Rattle.turn.proofs.Turns.{end-follows, gathered, flying-before, room-left, room-results, room-stores, written-clear, turn-off, turn-went, turn-kept}
 use borrow.Author.Needs.{needs}
 use Rattle.turn.proofs.step.Statement.{statement}
 use Rattle.turn.proofs.step.Tie as tie
@@ -18,25 +19,38 @@ use Rattle.turn.proofs.step.Tie as tie
 inside : (s : tie.Start) → s .args .at .0 < length (words (s .args .program .now))
 inside s = start-inside (words (s .args .program .now)) (s .args .at .0) (s .pre .1 .0 .start)
 
-add-t30 : tie.Need-add-t30
-add-t30 c =
+add-t31 : tie.Need-add-t31
+add-t31 c =
     let s = c .before .before .before .before .before in
     let p = words (s .args .program .now) in
     omega (arith, end-follows (c .before .cut .result .now) p (s .args .at .0) (c .before .cut .ensures), following-within p (s .args .at .0) (inside s), words-length (s .args .program .now))
 
 collect-requires : tie.Need-collect-requires
 collect-requires c κs =
-    let cut = c .before .before .before .before .before .before .before .before .before .before in
+    let cut = c .before .before .before .before .before .before .before .before .before .before .before .before in
     let s = cut .before .before .before .before in
     let p = s .pre in
-    (rw (cut .cut .ensures) (p .0 .own (s .args .at .0) (p .1 .0 .start)), (p .0 .timely, (room-results (p .1 .1 .0), room-stores (p .1 .1 .0) _)))
+    (rw (cut .cut .ensures) (p .0 .own (s .args .at .0) (p .1 .0 .start)), (p .0 .timely, (room-results (p .1 .1 .0), (room-stores (p .1 .1 .0) _, flying-before (s .args .at .0) (p .1 .0)))))
 
 commit-requires : tie.Need-commit-requires
 commit-requires c κs =
-    let collect = c .before .before .before .before .before .before .before .before .before .before .before .before .before .before in
-    let p = collect .before .before .before .before .before .before .before .before .before .before .before .before .before .before .before .pre in
-    let g = collect .collect .ensures .holds .results in
-    (bank-later (p .1 .0 .bank) (omega arith), (λ q h. p .1 .0 .freed q (omega arith), (g, (omega (arith, p .1 .1 .1 .0), omega (arith, p .1 .1 .1, g .few)))))
+    let told = c .before .before .before .before .before .before .before .before in
+    let collect = told .before .before .before .before .before .before in
+    let cut = collect .before .before .before .before .before .before .before .before .before .before .before .before .before in
+    let p = cut .before .before .before .before .pre in
+    let g = collect .collect .ensures .holds .results in (
+      bank-later (p .1 .0 .bank) (omega arith),
+      (
+        λ q h. p .1 .0 .freed q (omega arith),
+        (
+          g,
+          (
+            written-clear _ _ (words (cut .cut .result .now)) (p .0) (p .1 .0) (cut .cut .ensures) (collect .collect .ensures) (sym (told .enum-told .given .1) ∙ told .before .before .against .ensures []),
+            (omega (arith, p .1 .1 .1 .0), omega (arith, p .1 .1 .1, g .few)),
+          ),
+        ),
+      ),
+    )
 
 -- by a call or a return
 returns : tie.Need-returns
@@ -45,7 +59,7 @@ returns c =
     let commit = stored .before .before .before .before .before in
     let told = commit .before .before .before .before .before .before .before .before .before in
     let collect = told .before .before .before .before .before .before in
-    let cut = collect .before .before .before .before .before .before .before .before .before .before .before in
+    let cut = collect .before .before .before .before .before .before .before .before .before .before .before .before .before in
     let s = cut .before .before .before .before in
     let p = words (s .args .program .now) in
     let law = cut .cut .ensures in
@@ -60,7 +74,7 @@ returns c =
 returns-2 : tie.Need-returns-2
 returns-2 c =
     let collect = c .before .before .before .before .before .before .before in
-    let cut = collect .before .before .before .before .before .before .before .before .before .before .before in
+    let cut = collect .before .before .before .before .before .before .before .before .before .before .before .before .before in
     let s = cut .before .before .before .before in
     let p = words (s .args .program .now) in
     let law = cut .cut .ensures in
@@ -75,7 +89,7 @@ returns-3 c =
     let commit = stored .before .before .before .before .before in
     let told = commit .before .before .before .before .before .before .before .before .before in
     let collect = told .before .before .before .before .before .before in
-    let cut = collect .before .before .before .before .before .before .before .before .before .before .before in
+    let cut = collect .before .before .before .before .before .before .before .before .before .before .before .before .before in
     let s = cut .before .before .before .before in
     let p = words (s .args .program .now) in
     let law = cut .cut .ensures in
@@ -92,12 +106,12 @@ step-spec =
     tie.close
     (tie.spec
     (λ c κs. c .before .before .before .pre .1 .0 .start)
-    add-t30
+    add-t31
     collect-requires
-    (λ c κs. (c .before .before .before .collect .ensures .holds .stores .few, c .before .before .before .before .before .before .before .before .before .before .before .before .before .before .before .before .before .before .pre .1 .0 .freed))
+    (λ c κs. (c .before .before .before .collect .ensures .holds .stores .few, c .before .before .before .before .before .before .before .before .before .before .before .before .before .before .before .before .before .before .before .before .pre .1 .0 .freed))
     (λ c. search needs)
     (λ c. search needs)
-    (λ c. omega (arith, c .before .before .before .before .before .before .before .before .before .before .before .before .before .before .before .before .before .before .before .before .before .before .pre .1 .1 .1 .0))
+    (λ c. omega (arith, c .before .before .before .before .before .before .before .before .before .before .before .before .before .before .before .before .before .before .before .before .before .before .before .before .pre .1 .1 .1 .0))
     commit-requires
     (λ c κs. c .before .before .before .before .before .before .before .before .before .before .before .before .before .before .before .before .before .before .before .collect .ensures .holds .stores)
     (λ c κs. search needs)
