@@ -11,7 +11,7 @@
 #include "vex.h"
 
 enum { PROVED, SECOND, OLD, BUILDS }; /* OLD, an earlier build of the proved library, only where it is given */
-enum { ROUNDS = 40, MEMORY = 4096, POSITIONS_MAX = 16 };
+enum { PASSES = 8, ROUNDS = 5, MEMORY = 4096, POSITIONS_MAX = 16 }; /* passes, so that what disturbs the machine for seconds falls into few of them */
 #define SAMPLE_SECONDS 0.02
 
 /* One library: its entries, and slices of its own, so that all can be compared after each sample. */
@@ -30,9 +30,9 @@ struct build {
     int positions;
 };
 
-/* The least seconds of a call of one build: as the linker puts it, and the mean of its other positions. */
+/* The least seconds of a call, of each build at each of its positions. */
 struct times {
-    double linked, mean;
+    double at[BUILDS][POSITIONS_MAX];
 };
 
 struct measure {
@@ -98,30 +98,31 @@ static int same(const struct library *a, const struct library *b) {
            memcmp(a->memory, b->memory, MEMORY) == 0;
 }
 
-/* The times of a call of each build, of samples by turns. */
-static void measure(struct build *b, int builds, const struct measure *m, struct times took[BUILDS]) {
-    static double best[BUILDS][POSITIONS_MAX];
+/* One pass: samples by turns, of which the least count. */
+static void measure(struct build *b, int builds, const struct measure *m, struct times *least) {
     unsigned long calls = 1;
     while (sample(&b[SECOND].at[0], m, calls) < SAMPLE_SECONDS) calls *= 2;
     for (int round = 0; round < ROUNDS; round++) {
         for (int turn = 0; turn < builds; turn++) {
             int which = (turn + round) % builds;
             for (int position = 0; position < b[which].positions; position++) {
-                struct library *l = &b[which].at[position];
-                double seconds = sample(l, m, calls) / (double)calls;
-                if (round == 0 || seconds < best[which][position]) best[which][position] = seconds;
+                double seconds = sample(&b[which].at[position], m, calls) / (double)calls, *best = &least->at[which][position];
+                if (*best == 0 || seconds < *best) *best = seconds;
             }
         }
         for (int i = 0; i < builds; i++)
             for (int position = 0; position < b[i].positions; position++)
                 if (!same(&b[PROVED].at[0], &b[i].at[position])) fail(m->name, i == OLD ? "proved and old differ" : "proved and second differ");
     }
-    for (int i = 0; i < builds; i++) {
-        took[i].linked = took[i].mean = best[i][0];
-        if (b[i].positions == 1) continue;
-        took[i].mean = 0;
-        for (int position = 1; position < b[i].positions; position++) took[i].mean += best[i][position] / (b[i].positions - 1);
-    }
+}
+
+/* The time of a build: the mean of its positions; second's is as the linker puts it, the only one. */
+static double mean(const struct times *t, const struct build *b, int which) {
+    int positions = b[which].positions;
+    double sum = 0;
+    if (positions == 1) return t->at[which][0];
+    for (int position = 1; position < positions; position++) sum += t->at[which][position];
+    return sum / (positions - 1);
 }
 
 int main(int argc, char **argv) {
@@ -150,25 +151,28 @@ int main(int argc, char **argv) {
         {"run calls, one instruction", RUN, calls, 10000, 10000 * 1e-9, "ns", 1},
         {"slice of one instruction", RUN, full, 1, 1e-6, "us", 0},
     };
-    struct times times[sizeof measures / sizeof measures[0]][BUILDS];
+    enum { MEASURES = sizeof measures / sizeof measures[0] };
+    static struct times times[MEASURES];
+    int timed[MEASURES]; /* how many builds */
+    for (int i = 0; i < MEASURES; i++) timed[i] = measures[i].links && builds[OLD].at[0].state_len < VEX_STATE_BYTES ? SECOND + 1 : count;
+    for (int pass = 0; pass < PASSES; pass++)
+        for (int i = 0; i < MEASURES; i++) measure(builds, timed[i], &measures[i], &times[i]);
+
     const struct times *add = NULL; /* those of an add */
     printf("%-30s %12s %12s %8s", "", "proved", "second", "ratio");
     if (count > OLD) printf(" %12s %8s %8s", "old", "old/new", "linked");
     printf("\n");
-    for (size_t i = 0; i < sizeof measures / sizeof measures[0]; i++) {
+    for (int i = 0; i < MEASURES; i++) {
         const struct measure *m = &measures[i];
-        const struct times *took = times[i];
-        int timed = m->links && builds[OLD].at[0].state_len < VEX_STATE_BYTES ? SECOND + 1 : count;
-        measure(builds, timed, m, times[i]);
-        printf("%-30s %9.1f %s %9.1f %s %8.2f", m->name, took[PROVED].mean / m->unit, m->per, took[SECOND].mean / m->unit, m->per,
-               took[SECOND].mean / took[PROVED].mean);
-        if (timed > OLD)
-            printf(" %9.1f %s %8.2f %8.2f", took[OLD].mean / m->unit, m->per, took[OLD].mean / took[PROVED].mean,
-                   took[OLD].linked / took[PROVED].linked);
+        const struct times *t = &times[i];
+        double proved = mean(t, builds, PROVED), second = mean(t, builds, SECOND);
+        printf("%-30s %9.1f %s %9.1f %s %8.2f", m->name, proved / m->unit, m->per, second / m->unit, m->per, second / proved);
+        if (timed[i] > OLD)
+            printf(" %9.1f %s %8.2f %8.2f", mean(t, builds, OLD) / m->unit, m->per, mean(t, builds, OLD) / proved, t->at[OLD][0] / t->at[PROVED][0]);
         printf("\n");
-        if (m->kernel == adds) add = took;
-        if (m->kernel == calls) printf("%-30s %12.2f %12.2f\n", "  calls by adds", took[PROVED].mean / add[PROVED].mean, took[SECOND].mean / add[SECOND].mean);
-        fflush(stdout);
+        if (m->kernel == adds) add = t;
+        if (m->kernel == calls)
+            printf("%-30s %12.2f %12.2f\n", "  calls by adds", proved / mean(add, builds, PROVED), second / mean(add, builds, SECOND));
     }
     printf("A proved library's time is the mean of %d positions in memory.\n", builds[PROVED].positions - 1);
     printf("ratio: second's time by proved's; above 1 the proved library is the faster one. Only ratios of one run compare.\n");
