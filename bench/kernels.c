@@ -1,5 +1,8 @@
-/* The programs that are timed, syllable by syllable. */
+/* The programs that are timed, syllable by syllable, and the texts, line by line. */
 #include "kernels.h"
+
+#include <stdio.h>
+#include <string.h>
 
 static const uint8_t one_cluster[] = {1, 4, 4, 2, 1, 0, 1, 2, 2, 3, 1};
 static const uint8_t two_clusters[] = {2, 4, 4, 2, 1, 1, 4, 4, 2, 1, 1, 1, 2, 2, 3, 1};
@@ -88,4 +91,45 @@ const struct kernel *adds_kernel(void) {
     for (int i = 0; i < 2 * CALLS; i++) append(&k, &an_add, 1);
     append(&k, &last, 1);
     return &k;
+}
+
+enum { LABELS = 1000, NOPS = 95 }; /* with four operations a label, and a stop, 4,096 */
+
+/* Of 100 bytes. */
+static const char comment[] = "## one step of the loop: what was read in the step before is added, and the next byte is being read\n";
+
+static void write_line(struct text *t, int comments, const char *line) {
+    if (comments) {
+        memcpy(t->bytes + t->len, comment, sizeof comment - 1);
+        t->len += sizeof comment - 1;
+    }
+    memcpy(t->bytes + t->len, line, strlen(line));
+    t->len += strlen(line);
+}
+
+static void write_text(struct text *t, int comments) {
+    char line[100];
+    for (unsigned i = 0; i < LABELS; i++) {
+        snprintf(line, sizeof line, "label_%u:  c0 add $r0.%u = $r0.%u, %u ;;\n", i, 1 + i % 60, 2 + i % 60, i % 8);
+        write_line(t, comments, line);
+        snprintf(line, sizeof line, " c0 ldw $r0.%u = %u[$r0.2]\n", 3 + i % 60, i % 64);
+        write_line(t, comments, line);
+        snprintf(line, sizeof line, " c0 goto label_%u ;;\n", (467 * i + 512) % LABELS); /* each once: 467 and LABELS have no factor in common */
+        write_line(t, comments, line);
+        write_line(t, comments, " c0 nop ;;\n");
+    }
+    for (int i = 0; i < NOPS; i++) write_line(t, comments, " c0 nop ;;\n");
+    write_line(t, comments, " c0 stop ;;\n");
+}
+
+const struct text *labels_text(void) {
+    static struct text t;
+    write_text(&t, 0);
+    return &t;
+}
+
+const struct text *comments_text(void) {
+    static struct text t;
+    write_text(&t, 1);
+    return &t;
 }

@@ -1,4 +1,4 @@
-/* The programs that are timed. */
+/* The programs and the texts that are timed. */
 #ifndef KERNELS_H
 #define KERNELS_H
 
@@ -24,5 +24,16 @@ const struct kernel *full_kernel(void);
 /* One cluster, one syllable an instruction: a loop of calls, each with its return; and the same loop with an add for each of them. */
 const struct kernel *calls_kernel(void);
 const struct kernel *adds_kernel(void);
+
+struct text {
+    char bytes[600000];
+    size_t len;
+};
+
+/* 4,096 operations and as many syllables, one or two an instruction, one a line; 1,000 labels, each named by one goto; some 100 KB. */
+const struct text *labels_text(void);
+
+/* The same with a comment line of 100 bytes above each line: 400 KB more. */
+const struct text *comments_text(void);
 
 #endif

@@ -1,11 +1,12 @@
-/* The preview sandbox for C and C++: three calls that load, check and run an effect. docs/MACHINE.md has the machine and the encoding;
- * vex_words.h has words for the numbers and the causes behind them.
+/* The preview sandbox for C and C++: four calls that assemble, load, check and run an effect. docs/MACHINE.md has the machine and the encoding,
+ * docs/NOTATION.md the text that is assembled; vex_words.h and vex_text_words.h have words for the numbers and the causes behind them.
  *
- * Slices. A slice is a pointer and a length in bytes. The pointer stands for that many bytes, readable, and writable for state, memory and
- * room. No two slices of one call overlap. Alignment is free. A pointer may be null where its length is 0. The proofs begin at the slices:
- * alignment and null pointers are tried by the example host's self-test, with every slice, and no proof covers them.
+ * Slices. A slice is a pointer and a length in bytes. The pointer stands for that many bytes, readable, and writable for state, memory, room and
+ * the program that is assembled. No two slices of one call overlap. Alignment is free. A pointer may be null where its length is 0. The proofs begin
+ * at the slices: alignment and null pointers are tried by the example host's self-test, with every slice, and no proof covers them.
  *
- * Words. Numbers inside slices are 4 bytes, highest byte first. A place is a syllable's index: byte offset 4 * place of the program.
+ * Words. Numbers inside slices are 4 bytes, highest byte first. A place is a syllable's index: byte offset 4 * place of the program; of 18, 19 and
+ * 20 it is a line of the text, from 1.
  *
  * Nothing is kept between calls: what an effect is doing stands in the state image and the memory, both the host's own. The library has no
  * data of its own that it writes, so threads that share no slice they write may call at once. No call asks anything more of its caller:
@@ -15,9 +16,12 @@
  * means to do both again: the effect's stores stay in the memory until the host clears it. To move an effect to another process is to hand over
  * state and memory.
  *
- * Cost. Every call tests table and program from the beginning: about 10 microseconds for a small effect and under a millisecond for 4,096
- * syllables (check: some milliseconds), as measured on one x86-64 machine. An instruction takes up to about a microsecond, the widest most, so
- * n bounds the time of a call: n = 10,000 took about 1 to 10 milliseconds, and n = 0xFFFFFFFF may take more than an hour. A call cannot be broken off; use slices.
+ * Cost. Load, check and run test table and program from the beginning: about 10 microseconds for a small effect and under a millisecond for 4,096
+ * syllables (check: some milliseconds), as measured on one x86-64 machine. An instruction takes up to about a microsecond, the widest most, so n
+ * bounds the time of a call: n = 10,000 took about 1 to 10 milliseconds, and n = 0xFFFFFFFF may take more than an hour. A call cannot be broken
+ * off; use slices. To assemble took 20 to 90 microseconds for a small effect, and 5 milliseconds for 4,096 operations with 1,000 labels in half a
+ * megabyte of text. Labels beyond the first 4,096 of a text are searched for one by one: 262,144 bytes of nothing but labels took 20 seconds, so a host
+ * that takes texts from anybody bounds their length.
  *
  * Link. The archive needs memcpy and memset of the system and nothing else; no call allocates, opens a file, or uses a thread.
  */
@@ -32,14 +36,17 @@ extern "C" {
 #endif
 
 /* This interface. It goes up by one when a call, a number, a layout or a constant changes its meaning. */
-#define VEX_VERSION 2
+#define VEX_VERSION 3
 
-/* Stack that a call may use, with room to spare. On x86-64 the most that was measured is 20,264 bytes, in run. On Arm and other processors nothing was
- * measured, as the archive is for x86-64 alone; it is assumed that a library made for them uses at most twice as much. */
+/* Stack that a call may use, with room to spare: VEX_ASSEMBLE_STACK_BYTES for vex_assemble, which keeps the labels of a text there, and
+ * VEX_STACK_BYTES for the others. On x86-64 the most that was measured is 20,200 bytes, in run, and 100,488 in assemble. On Arm and other processors
+ * nothing was measured, as the archive is for x86-64 alone; it is assumed that a library made for them uses at most twice as much. */
 #if defined(__x86_64__)
 #define VEX_STACK_BYTES 32768
+#define VEX_ASSEMBLE_STACK_BYTES 131072
 #else
 #define VEX_STACK_BYTES 65536
+#define VEX_ASSEMBLE_STACK_BYTES 262144
 #endif
 
 /* The delay table. Byte 0: the cluster count C. Then 5 bytes for each cluster: width (syllables an instruction), and how many ALU, MUL, MEM
@@ -82,13 +89,15 @@ extern "C" {
 #define VEX_BUSY_MAX 7
 
 /* The numbers. 1 to 10 are each tested over the whole input before the next, and the lowest place is named; 11 to 14 and 17 are met as the effect
- * runs, in one instruction 11 first, then 17, then 12 and 13 syllable by syllable, then 14. Good and paused are both 0: which one it is goes by
- * the call. 15 and 16 are never given; 16 is the text program's number for a bad line. In brackets: what the place is. */
+ * runs, in one instruction 11 first, then 17, then 12 and 13 syllable by syllable, then 14. 18 to 20 are assemble's, for the lowest line that has
+ * one of them, and of that line the lowest number; its 2 comes after them. Good and paused are both 0: which one it is goes by the call. 15 and 16
+ * are never given; 16 is the text program's number for a bad line. In brackets: what the place is. */
 enum {
-    VEX_GOOD = 0,            /* load, check: nothing is wrong [0] */
+    VEX_GOOD = 0,            /* assemble, load, check: nothing is wrong [0] */
     VEX_PAUSED = 0,          /* run: n instructions are done, and no stop was met [the one to come] */
     VEX_BAD_TABLE = 1,       /* the table breaks a limit [0] */
-    VEX_BAD_LENGTH = 2,      /* a length is wrong [0 program, 1 memory, 2 state, 3 room; the first in this order] */
+    VEX_BAD_LENGTH = 2,      /* a length is wrong [0 program, 1 memory, 2 state, 3 room; the first in this order]; assemble: the text has no
+                                syllable, more than 4,096, or more than the program holds [0], or as above [3] */
     VEX_NO_END = 3,          /* the last syllable lacks bit 31 [it] */
     VEX_BAD_BITS = 4,        /* opcode 0 is no nop, stop, call or return, or a bit that should be zero is set [the syllable] */
     VEX_BAD_CLUSTER = 5,     /* an instruction's first syllable lacks bit 30; more clusters are opened than the table has; control (stop, call,
@@ -111,8 +120,22 @@ enum {
     VEX_OUT_OF_BOUNDS = 13,  /* run: an access ends beyond the memory */
     VEX_STORES_CLASH = 14,   /* run: two stores of one instruction share a byte */
     VEX_BAD_LINK = 17,       /* run: at a return, the link register is not the place of an instruction's first syllable */
+    VEX_BAD_TEXT = 18,       /* assemble: a line is not in the notation; its operation is of a lower cluster than the one before it in the
+                                instruction; its label or its ;; stands where none may [18 to 20: the line, from 1] */
+    VEX_BAD_LABEL = 19,      /* assemble: a line gives a label that a line above it gives, or names one that no line gives */
+    VEX_BAD_VALUE = 20,      /* assemble: a number, a label or a step of an expression leaves -2^31 to 2^31 - 1, or the expression's value does
+                                not fit its field */
     VEX_STOPPED = 255        /* run: the effect is at a stop [the stop] */
 };
+
+/* Assembles: reads a text in the notation of docs/NOTATION.md and writes its syllables, as vex_load takes them. Gives 0, 18 to 20, then 2; which
+ * clusters and units there are is no question here, and no table is asked.
+ *   text      read; any bytes, any number of them
+ *   program   written with the syllables, 4 bytes each; as many may be written as it has whole words, and VEX_PROGRAM_BYTES_MAX bytes are
+ *             always enough. What is behind the syllables stays as it was, and all of it under every number but 0
+ *   room      written with number, count and place: 0, how many syllables were written, 0; or, refused, the number, 0 and the place
+ * Returns the number, also where the room cannot be written. */
+uint32_t vex_assemble(const uint8_t *text, size_t text_len, uint8_t *program, size_t program_len, uint8_t *room, size_t room_len);
 
 /* Loads: says whether the program is one under this table. Gives 0 to 8; under 2 it tests program and room.
  *   table, program   read

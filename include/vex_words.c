@@ -1,8 +1,8 @@
 #include "vex_words.h"
 
-#include <stdarg.h>
-#include <stdio.h>
 #include <string.h>
+
+#include "vex_say.h"
 
 /* Words of the numbers. */
 
@@ -17,13 +17,13 @@ struct vex_answer vex_read_room(const uint8_t room[VEX_ROOM_BYTES]) {
 
 const char *vex_words(struct vex_answer answer) {
     static const char *const lengths[] = {
-        "the program is not 1 to 4,096 syllables of 4 bytes",
+        "the program is not 1 to 4,096 syllables of 4 bytes, or more than was lent for it",
         "the memory has more than 65,536 bytes",
         "the state image is not 2,888 bytes",
         "the answer room is not 12 bytes",
     };
     switch (answer.number) {
-    case VEX_GOOD: return "good, or paused"; /* load and check; run */
+    case VEX_GOOD: return "good, or paused"; /* assemble, load and check; run */
     case VEX_BAD_TABLE: return "the delay table breaks a limit";
     case VEX_BAD_LENGTH: return lengths[answer.place & 3];
     case VEX_NO_END: return "the last syllable does not end its instruction";
@@ -40,6 +40,9 @@ const char *vex_words(struct vex_answer answer) {
     case VEX_STORES_CLASH: return "two stores of one instruction share a byte";
     case 16: return "a line of the text is bad or missing"; /* the text program's */
     case VEX_BAD_LINK: return "a return goes to a link that starts no instruction";
+    case VEX_BAD_TEXT: return "a line is not in the notation";
+    case VEX_BAD_LABEL: return "a label is given twice, or is not given";
+    case VEX_BAD_VALUE: return "a value leaves the signed 32-bit range, or does not fit its field";
     case VEX_STOPPED: return "stopped";
     default: return "no number of the sandbox";
     }
@@ -237,20 +240,6 @@ static const char *touches(const struct vex_operation *o, unsigned r) {
 }
 
 /* The causes. Each says one, or nothing. */
-
-struct text {
-    char *at;
-    size_t size, length;
-};
-
-static void say(struct text *t, const char *format, ...) {
-    va_list list;
-    va_start(list, format);
-    int more = t->length < t->size ? vsnprintf(t->at + t->length, t->size - t->length, format, list) : 0;
-    va_end(list);
-    if (more > 0) t->length += (size_t)more;
-    if (t->length >= t->size) t->length = t->size > 0 ? t->size - 1 : 0;
-}
 
 static void limit(struct text *t, unsigned value, unsigned least, unsigned most, const char *format, unsigned cluster, const char *name) {
     if (t->length > 0 || (value >= least && value <= most)) return;

@@ -1,6 +1,6 @@
-/* Words for hosts: what the sandbox's numbers mean, and the cause behind each. A help that decides nothing: number and place are the
- * library's, and these functions only look for what they can be put down to. Take vex_words.c into any host; it wants vex.h and the standard
- * library, allocates nothing, keeps nothing, and takes any bytes. */
+/* Words for hosts: what the sandbox's numbers mean, and the cause behind each; vex_text_words.h has the causes of what assemble refuses. A help
+ * that decides nothing: number and place are the library's, and these functions only look for what they can be put down to. Take vex_words.c
+ * into any host; it wants vex.h, vex_say.h and the standard library, allocates nothing, keeps nothing, and takes any bytes. */
 #ifndef VEX_WORDS_H
 #define VEX_WORDS_H
 
@@ -25,8 +25,9 @@ struct vex_given {
     size_t table_len, program_len, state_len, memory_len;
 };
 
-/* Writes the cause of an answer as a C string, cut to size bytes; VEX_CAUSE_BYTES are enough. Returns its length: 0 if the words say all (0, 2,
- * 3, 255), or if what was given holds no cause, as when the room is of another call. Of two causes at one place it names one. */
+/* Writes the cause of an answer of load, check or run as a C string, cut to size bytes; VEX_CAUSE_BYTES are enough. Returns its length: 0 if the
+ * words say all (0, 2, 3, 255), or if what was given holds no cause, as when the room is of another call. Of two causes at one place it names
+ * one. */
 #define VEX_CAUSE_BYTES 256
 size_t vex_cause(const struct vex_given *given, struct vex_answer answer, char *cause, size_t size);
 

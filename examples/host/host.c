@@ -1,4 +1,4 @@
-/* A small preview host: it loads, checks and runs an effect in slices, and writes the frame as an image after each. */
+/* A small preview host: it assembles, loads, checks and runs an effect in slices, and writes the frame as an image after each. */
 #include <stdio.h>
 #include <stdlib.h>
 #include <string.h>
@@ -27,14 +27,13 @@ static struct vex_answer run_slice(const struct options *o, struct machine *m) {
 /* Runs the slices; after each, a line of progress and the frame. */
 static int play(const struct options *o, struct machine *m) {
     struct bytes shown = zeros(o->width * o->height);
-    struct vex_given given = given_of(m);
     const uint8_t *frame = m->memory.at + o->address;
     unsigned long long executed = 0;
 
     for (unsigned long slice = 1; slice <= o->slices; slice++) {
         struct vex_answer a = run_slice(o, m);
         if (a.number != VEX_PAUSED && a.number < VEX_IN_FLIGHT) {
-            say_refusal("run", a, &given);
+            say_refusal("run", a, m);
             return REFUSED;
         }
         const char *end = a.number == VEX_PAUSED ? "paused" : a.number == VEX_STOPPED ? "stopped" : "a fault";
@@ -49,7 +48,7 @@ static int play(const struct options *o, struct machine *m) {
         if (o->registers) say_registers(m);
         if (a.number == VEX_STOPPED) break;
         if (a.number != VEX_PAUSED) {
-            say_refusal("run", a, &given);
+            say_refusal("run", a, m);
             return REFUSED;
         }
         fflush(stdout);
@@ -59,7 +58,6 @@ static int play(const struct options *o, struct machine *m) {
 
 /* Instruction by instruction, as standard input says. */
 static int step(const struct options *o, struct machine *m) {
-    struct vex_given given = given_of(m);
     struct vex_answer a = {VEX_PAUSED, 0, 0};
     char line[100];
     next_landing(&m->landing);
@@ -78,8 +76,30 @@ static int step(const struct options *o, struct machine *m) {
         printf("\n");
     }
     if (a.number == VEX_PAUSED || a.number == VEX_STOPPED) return DONE;
-    say_refusal("run", a, &given);
+    say_refusal("run", a, m);
     return REFUSED;
+}
+
+/* The effect's program: a file named *.s is a text and is assembled, any other holds the syllables. */
+static int read_effect(const char *name, struct machine *m) {
+    struct bytes file = read_file(name);
+    size_t length = strlen(name);
+    uint8_t room[VEX_ROOM_BYTES];
+    m->name = name;
+    printf("%s: %lu bytes\n", name, (unsigned long)file.length);
+    if (length < 2 || strcmp(name + length - 2, ".s") != 0) {
+        m->program = file;
+        return DONE;
+    }
+    m->text = file;
+    m->program = zeros(VEX_PROGRAM_BYTES_MAX);
+    if (vex_assemble(file.at, file.length, m->program.at, m->program.length, room, sizeof room) != VEX_GOOD) {
+        say_text_refusal(vex_read_room(room), m);
+        return REFUSED;
+    }
+    m->program.length = VEX_SYLLABLE_BYTES * (size_t)vex_read_room(room).count;
+    printf("assemble: %lu syllables\n", (unsigned long)vex_read_room(room).count);
+    return DONE;
 }
 
 int main(int argc, char **argv) {
@@ -87,19 +107,17 @@ int main(int argc, char **argv) {
     if (o.self_test) return self_test() == 0 ? DONE : REFUSED;
     struct machine m = {.table = {default_table, sizeof default_table}};
     if (o.table != NULL) m.table = read_file(o.table);
-    m.program = read_file(o.effect);
     m.landing = read_landing(o.landing);
-    struct vex_given given = given_of(&m);
     uint8_t room[VEX_ROOM_BYTES];
 
-    printf("%s: %lu bytes\n", o.effect, (unsigned long)m.program.length);
+    if (read_effect(o.effect, &m) != DONE) return REFUSED;
     if (vex_load(m.table.at, m.table.length, m.program.at, m.program.length, room, sizeof room) != VEX_GOOD) {
-        say_refusal("load", vex_read_room(room), &given);
+        say_refusal("load", vex_read_room(room), &m);
         return REFUSED;
     }
     printf("load: good\n");
     if (vex_check(m.table.at, m.table.length, m.program.at, m.program.length, room, sizeof room) != VEX_GOOD) {
-        say_refusal("check", vex_read_room(room), &given);
+        say_refusal("check", vex_read_room(room), &m);
         return REFUSED;
     }
     printf("check: good\n");

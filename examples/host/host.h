@@ -5,7 +5,7 @@
 #include <stddef.h>
 #include <stdint.h>
 
-#include "vex_words.h"
+#include "vex_text_words.h"
 
 enum { DONE = 0, REFUSED = 1, BAD_USE = 2, NO_FILE = 3 };
 
@@ -28,9 +28,11 @@ struct landing {
     uint64_t seed;
 };
 
-/* What a call of run is given. A slice may be run in several calls: `used` counts the landing bytes that it has used. */
+/* What a call of run is given. A slice may be run in several calls: `used` counts the landing bytes that it has used. `text` is what the program was
+ * assembled from, null if it was read as it is; `name` is the file's. */
 struct machine {
-    struct bytes table, program, state, memory;
+    const char *name;
+    struct bytes text, table, program, state, memory;
     struct landing landing;
     size_t used;
 };
@@ -50,9 +52,10 @@ struct vex_answer run_machine(struct machine *m, uint32_t n);
 struct vex_answer trace_one(struct machine *m);
 unsigned long frame_length(const struct machine *m, unsigned long limit);
 
-/* show.c: prints a refusal or a fault in words, its cause and the instructions that it names; the registers that are not zero, the link
- * register among them. */
-void say_refusal(const char *entry, struct vex_answer answer, const struct vex_given *given);
+/* show.c: prints a refusal or a fault in words, its cause and the instructions that it names, of a text the line too; what assemble refuses; the
+ * registers that are not zero, the link register among them. */
+void say_refusal(const char *entry, struct vex_answer answer, const struct machine *m);
+void say_text_refusal(struct vex_answer answer, const struct machine *m);
 void say_registers(const struct machine *m);
 
 /* frame.c: writes a frame as PREFIX-NNN.pgm and PREFIX-NNN.png, and says the first of these names. */

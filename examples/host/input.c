@@ -12,7 +12,8 @@
 
 static const char usage[] =
     "usage: host [OPTION ..] EFFECT     or: host --self-test\n"
-    "EFFECT is a file of syllables, 4 bytes each, highest byte first. It is loaded, checked, and run from zeros.\n"
+    "EFFECT is a text in the notation (docs/NOTATION.md) if it is named *.s, and is assembled; any other file holds\n"
+    "syllables, 4 bytes each, highest byte first. It is loaded, checked, and run from zeros.\n"
     "  --table FILE           the delay table's bytes; without it, two clusters of four\n"
     "  --memory BYTES         length of the memory (8192)\n"
     "  --slices K             how many slices are run (8)\n"

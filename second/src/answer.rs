@@ -34,7 +34,7 @@ impl Refusal {
         Refusal { number, place, cause }
     }
 
-    /// Refusals 1 to 8, 10 and 16 have count 0.
+    /// Refusals that execute nothing have count 0.
     pub fn answer(self) -> Answer {
         Answer { number: self.number, count: 0, place: self.place }
     }

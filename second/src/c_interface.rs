@@ -1,4 +1,4 @@
-//! The same three calls for a host in C: a slice is a pointer and a length, null with length 0 allowed.
+//! The same calls for a host in C: a slice is a pointer and a length, null with length 0 allowed.
 
 use crate::interface;
 use std::slice;
@@ -60,6 +60,20 @@ pub unsafe extern "C" fn vex_run(
     )
 }
 
+/// # Safety
+/// As for `vex_load`; program and room are writable and do not overlap anything.
+#[no_mangle]
+pub unsafe extern "C" fn vex_assemble(
+    text: *const u8,
+    text_len: usize,
+    program: *mut u8,
+    program_len: usize,
+    room: *mut u8,
+    room_len: usize,
+) -> u32 {
+    interface::assemble(given(text, text_len), lent(program, program_len), lent(room, room_len))
+}
+
 // A slice may not be made from a null pointer, not even an empty one.
 unsafe fn given<'a>(pointer: *const u8, length: usize) -> &'a [u8] {
     if length == 0 {
@@ -86,6 +100,8 @@ mod tests {
     fn null_with_length_0() {
         let nothing = unsafe { vex_load(null(), 0, null(), 0, null_mut(), 0) };
         assert_eq!(nothing, 1);
+        let nothing = unsafe { vex_assemble(null(), 0, null_mut(), 0, null_mut(), 0) };
+        assert_eq!(nothing, 2);
         let table = [1u8, 4, 4, 2, 1, 0, 1, 2, 2, 3, 1];
         let program = [0xC0u8, 4, 0, 0];
         let (mut state, mut room) = ([0u8; 2888], [9u8; 12]);

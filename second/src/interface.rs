@@ -1,6 +1,7 @@
-//! load, check and run on numbers and byte slices; each fills the answer room and returns the number.
+//! load, check, run and assemble on numbers and byte slices; each fills the answer room and returns the number.
 
 use crate::answer::{Answer, Refusal};
+use crate::assemble;
 use crate::check;
 use crate::load::{self, Lengths};
 use crate::run;
@@ -30,6 +31,18 @@ pub fn run(
     room: &mut [u8],
 ) -> u32 {
     answered(run::run(table, program, state, memory, landing, n, room.len()), room)
+}
+
+/// A refusal writes nothing to the program; what is behind the syllables stays as it was.
+pub fn assemble(text: &[u8], program: &mut [u8], room: &mut [u8]) -> u32 {
+    let assembled = assemble::assemble(text, program.len() / 4, room.len()).map(|instructions| {
+        let syllables = instructions.concat();
+        for (word, syllable) in program.chunks_exact_mut(4).zip(&syllables) {
+            word.copy_from_slice(&syllable.to_be_bytes());
+        }
+        Answer { number: 0, count: syllables.len() as u32, place: 0 }
+    });
+    answered(assembled, room)
 }
 
 fn answered(outcome: Result<Answer, Refusal>, room: &mut [u8]) -> u32 {
@@ -68,5 +81,35 @@ mod tests {
             assert_eq!(run(&ONE, &STOP, &mut [0; 2888], &mut [], &[], 1, &mut room), 2);
             assert_eq!(room, vec![0xEE; size]);
         }
+    }
+
+    #[test]
+    fn assemble_writes_the_syllables_and_nothing_behind_them() {
+        let (mut program, mut room) = ([0xEE; 11], [0xEE; 12]);
+        assert_eq!(assemble(b"c0 goto 1;;\nc0 stop", &mut program, &mut room), 0);
+        assert_eq!(program, [0xFD, 0, 0, 1, 0xC0, 4, 0, 0, 0xEE, 0xEE, 0xEE]);
+        assert_eq!(room, [0, 0, 0, 0, 0, 0, 0, 2, 0, 0, 0, 0]);
+    }
+
+    #[test]
+    fn a_refused_text_leaves_the_program_as_it_was() {
+        let mut program = [0xEE; 11];
+        let mut refused = |text: &[u8], size: usize| {
+            let mut room = vec![0xEE; size];
+            let number = assemble(text, &mut program, &mut room);
+            assert_eq!(program, [0xEE; 11]);
+            (number, room)
+        };
+        let room = |number: u8, line: u8| vec![0, 0, 0, number, 0, 0, 0, 0, 0, 0, 0, line];
+        assert_eq!(refused(b"c0 nop;;\nc0 stop;", 12), (18, room(18, 2)));
+        assert_eq!(refused(b"c0 nop;;\nc0 goto a", 12), (19, room(19, 2)));
+        assert_eq!(refused(b"c0 nop;;\nc0 goto 0-1", 12), (20, room(20, 2)));
+        // 11 bytes hold two syllables.
+        assert_eq!(refused(b"c0 nop;;\nc0 nop;;\nc0 stop", 12), (2, room(2, 0)));
+        assert_eq!(refused(b"", 12), (2, room(2, 0)));
+        // A bad room comes last and is never written.
+        assert_eq!(refused(b"c0 stop", 13), (2, vec![0xEE; 13]));
+        assert_eq!(refused(b"c0 stop;", 11), (18, vec![0xEE; 11]));
+        assert_eq!(refused(b"c0 goto 0-1", 0), (20, vec![]));
     }
 }

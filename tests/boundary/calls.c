@@ -33,8 +33,16 @@ void put(struct call *c, uint32_t syllable) {
     c->program_len += 4;
 }
 
+void begin_text(struct call *c, const char *text) {
+    begin(c);
+    c->text = text;
+    c->program_len = VEX_PROGRAM_BYTES_MAX;
+}
+
 uint32_t perform(struct call *c, enum entry entry) {
     memset(c->room, 0x5A, sizeof c->room);
+    if (entry == ASSEMBLE)
+        return vex_assemble((const uint8_t *)c->text, strlen(c->text), c->program, c->program_len, c->room, c->room_len);
     if (entry == LOAD) return vex_load(c->table, c->table_len, c->program, c->program_len, c->room, c->room_len);
     if (entry == CHECK) return vex_check(c->table, c->table_len, c->program, c->program_len, c->room, c->room_len);
     return vex_run(c->table, c->table_len, c->program, c->program_len, c->state, c->state_len, c->memory, c->memory_len, NULL, 0, c->n, c->room,

@@ -7,10 +7,11 @@
 
 #include "vex.h"
 
-enum entry { LOAD, CHECK, RUN };
+enum entry { LOAD, CHECK, RUN, ASSEMBLE };
 
-/* The slices of one call, with room for lengths beyond each limit. */
+/* The slices of one call, with room for lengths beyond each limit. The text is assemble's, a C string. */
 struct call {
+    const char *text;
     uint8_t table[64], program[20000], state[4096], memory[70000], room[64];
     size_t table_len, program_len, state_len, memory_len, room_len;
     uint32_t n;
@@ -24,6 +25,9 @@ void begin_table(struct call *c, unsigned clusters);
 
 /* One more syllable. */
 void put(struct call *c, uint32_t syllable);
+
+/* A call of assemble with nothing wrong: the text, and the longest program. */
+void begin_text(struct call *c, const char *text);
 
 void put_word(uint8_t *at, uint32_t word);
 uint32_t word_at(const uint8_t *at);

@@ -2,6 +2,7 @@
  * offset to the register or the field that the library finds there. Prints the names it held, one a line, and on the error stream what did not hold.
  * It is linked with the proved library and with the second program. */
 #include <stdio.h>
+#include <string.h>
 
 #include "calls.h"
 
@@ -40,7 +41,18 @@ static int taken(void) {
     return answers(&c, LOAD, VEX_GOOD, 0, 0) && answers(&c, CHECK, VEX_GOOD, 0, 0) && answers(&c, RUN, VEX_STOPPED, 0, 0);
 }
 
+static int assembled(const char *text, uint32_t number, uint32_t count, uint32_t place) {
+    begin_text(&c, text);
+    return answers(&c, ASSEMBLE, number, count, place);
+}
+
 static void numbers(void) {
+    HOLD(VEX_GOOD, assembled("c0 nop ;;\nc0 stop ;;\n", VEX_GOOD, 2, 0));
+    HOLD(VEX_BAD_LENGTH, assembled("# nothing\n", VEX_BAD_LENGTH, 0, 0));
+    HOLD(VEX_BAD_TEXT, assembled("c0 nop ;;\nc0 goto a+ ;;\n", VEX_BAD_TEXT, 0, 2));
+    HOLD(VEX_BAD_LABEL, assembled("c0 nop ;;\nc0 goto a-1 ;;\n", VEX_BAD_LABEL, 0, 2));
+    HOLD(VEX_BAD_LABEL, assembled("a: c0 nop ;;\na: c0 goto a-1 ;;\n", VEX_BAD_LABEL, 0, 2));
+    HOLD(VEX_BAD_VALUE, assembled("a: c0 nop ;;\nc0 goto a-1 ;;\n", VEX_BAD_VALUE, 0, 2));
     stop();
     HOLD(VEX_GOOD, answers(&c, LOAD, VEX_GOOD, 0, 0) && answers(&c, CHECK, VEX_GOOD, 0, 0));
     AFTER_NOP(END | OPENS | STOP);
@@ -126,6 +138,22 @@ static void lengths(void) {
     c.program_len += 4;
     HOLD(VEX_PROGRAM_BYTES_MAX, refused(VEX_BAD_LENGTH, 0));
 
+    /* what is assembled has the same bounds: so many bytes a syllable, and in all */
+    for (size_t bytes = 0; bytes <= 16; bytes++) {
+        begin_text(&c, "c0 nop ;;\nc0 nop ;;\nc0 stop ;;\n");
+        c.program_len = bytes;
+        int fits = bytes >= 3 * VEX_SYLLABLE_BYTES;
+        HOLD(VEX_SYLLABLE_BYTES, fits ? answers(&c, ASSEMBLE, VEX_GOOD, 3, 0) : answers(&c, ASSEMBLE, VEX_BAD_LENGTH, 0, 0));
+    }
+    enum { SYLLABLES = VEX_PROGRAM_BYTES_MAX / VEX_SYLLABLE_BYTES, LINE = sizeof "c0 nop;;\n" - 1 };
+    static char nops[LINE * (SYLLABLES + 1) + 1];
+    for (size_t i = 0; i <= SYLLABLES; i++) memcpy(nops + LINE * i, "c0 nop;;\n", LINE);
+    begin_text(&c, nops);
+    c.program_len = sizeof c.program;
+    HOLD(VEX_PROGRAM_BYTES_MAX, answers(&c, ASSEMBLE, VEX_BAD_LENGTH, 0, 0));
+    nops[LINE * SYLLABLES] = '\0';
+    HOLD(VEX_PROGRAM_BYTES_MAX, assembled(nops, VEX_GOOD, SYLLABLES, 0));
+
     stop();
     c.memory_len = VEX_MEMORY_BYTES_MAX;
     HOLD(VEX_MEMORY_BYTES_MAX, taken());
@@ -141,6 +169,9 @@ static void lengths(void) {
         stop();
         c.room_len = bytes;
         HOLD(VEX_ROOM_BYTES, perform(&c, LOAD) == (bytes == VEX_ROOM_BYTES ? VEX_GOOD : VEX_BAD_LENGTH));
+        begin_text(&c, "c0 stop");
+        c.room_len = bytes;
+        HOLD(VEX_ROOM_BYTES, perform(&c, ASSEMBLE) == (bytes == VEX_ROOM_BYTES ? VEX_GOOD : VEX_BAD_LENGTH));
     }
     /* number, count and place are three different ones, and none is zero */
     AFTER_NOP(END | OPENS | NOP, OPENS | NOP, END | NOP, END | OPENS | LDW(1, 0, 64), END | OPENS | STOP);

@@ -1,6 +1,6 @@
 /* Runs each entry on a stack of its own, filled with a pattern and with an unreadable page below it, and holds the deepest byte that was written to
- * VEX_STACK_BYTES. The frame of the function that makes the call counts with it. The calls are made to go deep: the longest programs, a check
- * that follows 254 places, every operation, each way that a run ends. Prints the depths. */
+ * VEX_STACK_BYTES, for assemble to VEX_ASSEMBLE_STACK_BYTES. The frame of the function that makes the call counts with it. The calls are made to go deep: the longest programs, a check
+ * that follows 254 places, every operation, each way that a run ends, and texts of expressions as deep as they may be. Prints the depths. */
 #define _GNU_SOURCE
 #include <stdio.h>
 #include <stdlib.h>
@@ -101,18 +101,40 @@ static void kernel(const struct kernel *k) {
 }
 
 /* The deepest call of each entry so far. */
-static size_t deepest[RUN + 1];
+static size_t deepest[ASSEMBLE + 1];
+static const char *const entries[] = {"load", "check", "run", "assemble"};
+
+static void measure_one(const char *name, enum entry of, uint32_t wanted) {
+    size_t reached = depth(of);
+    if (number != wanted) {
+        printf("stack: %s: %s gives %lu\n", name, entries[of], (unsigned long)number);
+        exit(1);
+    }
+    if (reached > deepest[of]) deepest[of] = reached;
+}
 
 static void measure(const char *name, uint32_t load, uint32_t check, uint32_t run) {
-    const uint32_t wanted[] = {load, check, run};
-    for (int of = LOAD; of <= RUN; of++) {
-        size_t reached = depth((enum entry)of);
-        if (number != wanted[of]) {
-            printf("stack: %s: %s gives %lu\n", name, of == LOAD ? "load" : of == CHECK ? "check" : "run", (unsigned long)number);
-            exit(1);
-        }
-        if (reached > deepest[of]) deepest[of] = reached;
+    measure_one(name, LOAD, load);
+    measure_one(name, CHECK, check);
+    measure_one(name, RUN, run);
+}
+
+/* The longest program as a text: first every field with an expression 16 brackets deep and a label inside, then nops; then one more line. */
+static void measure_text(const char *name, const char *last, uint32_t wanted) {
+    static const char *const around[][2] = {{"add $r0.1 = $r0.2, ", ""}, {"sub $r0.1 = ", ", $r0.2"}, {"ldw $r0.1 = ", "[$r0.2]"},
+                                            {"stb ", "[$r0.2] = $r0.1"}, {"goto ", ""}, {"brf $b0.1, ", ""}, {"call $l0.0 = ", ""}};
+    enum { FIELDS = sizeof around / sizeof around[0], DEEP = 10 * FIELDS };
+    static char text[1 << 16];
+    size_t at = 0;
+    for (unsigned i = 0; i < DEEP; i++) {
+        const char *const *field = around[i % FIELDS];
+        at += (size_t)snprintf(text + at, sizeof text - at, "l%u: c0 %s((((((((((((((((l%u*0+2-1)*1)+0)-0)))))))))))))%s ;;\n", i, field[0],
+                               DEEP - 1 - i, field[1]);
     }
+    for (unsigned i = DEEP; i < 4095; i++) at += (size_t)snprintf(text + at, sizeof text - at, "c0 nop;;\n");
+    snprintf(text + at, sizeof text - at, "%s\n", last);
+    begin_text(&c, text);
+    measure_one(name, ASSEMBLE, wanted);
 }
 
 int main(void) {
@@ -151,10 +173,19 @@ int main(void) {
     measure("two clusters", VEX_GOOD, VEX_GOOD, VEX_PAUSED);
     kernel(calls_kernel());
     measure("calls", VEX_GOOD, VEX_GOOD, VEX_PAUSED);
+    measure_text("a text", "c0 stop", VEX_GOOD);
+    measure_text("a text of 4,097 syllables", "c1 stop", VEX_BAD_LENGTH);
+    measure_text("seventeen brackets", "c0 goto (((((((((((((((((0", VEX_BAD_TEXT);
+    measure_text("a label that is missing", "c0 goto ((((((((((((((((l))))))))))))))))", VEX_BAD_LABEL);
+    measure_text("a large value", "c0 goto ((((((((((((((((l0+2147483647*2))))))))))))))))", VEX_BAD_VALUE);
 
-    printf("stack: load %lu bytes, check %lu, run %lu; VEX_STACK_BYTES is %lu\n", (unsigned long)deepest[LOAD], (unsigned long)deepest[CHECK],
-           (unsigned long)deepest[RUN], (unsigned long)VEX_STACK_BYTES);
-    if (deepest[LOAD] <= VEX_STACK_BYTES && deepest[CHECK] <= VEX_STACK_BYTES && deepest[RUN] <= VEX_STACK_BYTES) return 0;
-    printf("include/vex.h: a call goes deeper than VEX_STACK_BYTES\n");
-    return 1;
+    int deep = 0;
+    printf("stack:");
+    for (int of = LOAD; of <= ASSEMBLE; of++) {
+        printf(" %s %lu bytes%s", entries[of], (unsigned long)deepest[of], of == ASSEMBLE ? ";" : ",");
+        deep |= deepest[of] > (of == ASSEMBLE ? VEX_ASSEMBLE_STACK_BYTES : VEX_STACK_BYTES);
+    }
+    printf(" VEX_STACK_BYTES is %lu, VEX_ASSEMBLE_STACK_BYTES %lu\n", (unsigned long)VEX_STACK_BYTES, (unsigned long)VEX_ASSEMBLE_STACK_BYTES);
+    if (deep) printf("include/vex.h: a call goes deeper than its VEX_STACK_BYTES or VEX_ASSEMBLE_STACK_BYTES\n");
+    return deep;
 }

@@ -1,10 +1,13 @@
 -- The promises that no equation settles by itself, each by its own reason.
 use mathlib.Core.Path.{_≡_, refl, sym, ap, _∙_}
-use mathlib.Core.Bool.{Bool, true}
-use mathlib.Core.List.{List, [], map}
-use Prim.Native.Nat.{ℕ, _^_, _<_}
+use mathlib.Core.Logic.{⊎-elim}
+use mathlib.Core.Bool.{Bool, true, false}
+use mathlib.Core.List.{List, [], _∷_, map}
+use Prim.Native.Nat.{ℕ, _+_, _^_, _≤_, _<_}
+use native.Mathlib.Nat.{eq-or-lt-of-le}
 use native.Mathlib.Omega.{arith}
-use lib.ListN.{length, getD}
+use lib.ListN.{length, getD, take}
+use lib.Seq.{length-take-le}
 use Rattle.word.specs.Bytes.{words}
 use Rattle.vliw.specs.Run.{run}
 use Rattle.vliw.specs.Machine.{inOrder, step}
@@ -21,6 +24,11 @@ use Rattle.schedule.specs.Rule.{Says}
 use Rattle.schedule.specs.Answer.{Checks}
 use Rattle.schedule.specs.declared.Verdict.{Verdict}
 use Rattle.schedule.proofs.Once.{one-verdict, one-outcome}
+use Rattle.source.specs.Grammar.{linesOf}
+use Rattle.source.specs.Walk.{refused, step as stepBy}
+use Rattle.source.specs.Seek.{Cut, heardIn, walkOf}
+use Rattle.source.specs.declared.reading.Line.{Line}
+use Rattle.source.specs.declared.walking.Walk.{Walk}
 use Rattle.memory.specs.Memory.{anyShare}
 use Rattle.memory.specs.Held.{storesIn}
 use Rattle.machine.specs.Image.{placeIn, registersIn, linkIn}
@@ -63,6 +71,32 @@ isa-following-one program at a b p q = place-is (p ∙ sym q)
 -- the lowest producer, and its lowest consumer
 pub schedule-check-one : (table : Table) (program : List ℕ) → OneOutcome (λ (r : Verdict). Says (table .delays) (words program) r)
 schedule-check-one table program = one-verdict (table .delays) (words program)
+
+-- the first line, as it is cut off
+headOf : List (List ℕ) → List ℕ
+headOf [] = []
+headOf (l ∷ ls) = l
+
+cut-at : (s : List ℕ) (n : ℕ) → Cut s n → n ≡ length (headOf (linesOf s))
+unfolding headOf
+cut-at s n c =
+    let e : headOf (linesOf s) ≡ take n s = ⊎-elim (λ k. ap headOf (c .last k)) (λ k. ap headOf (c .inner k)) (eq-or-lt-of-le (c .inside)) in
+    sym (ap length e ∙ length-take-le n s (c .inside))
+
+pub source-line-length-one : (s : List ℕ) → OneOutcome (λ (n : ℕ). Cut s n)
+source-line-length-one s a b p q = cut-at s a p ∙ sym (cut-at s b q)
+
+-- nothing of it goes by the line's bytes, so take none
+pub source-is-refused-one : (w : Walk) (l : Line) → OneOutcome (λ (r : Bool). ((line : List ℕ) → r ≡ refused (walkOf w) (heardIn line l)))
+source-is-refused-one w l a b p q = p [] ∙ sym (q [])
+
+-- the code's walk is the definition's, field by field
+pub source-step-one : (w : Walk) (l : Line)
+    → OneOutcome (λ (r : Walk). ((line : List ℕ) → walkOf r ≡ stepBy (walkOf w) (heardIn line l)) × (w .count ≤ r .count) × (r .count ≤ w .count + 4)
+    × (l .operates ≡ false → r .count ≡ w .count))
+source-step-one w l a b p q =
+    let e : walkOf a ≡ walkOf b = p .0 [] ∙ sym (q .0 []) in
+    λ i. record { count = e i .count; opened = e i .opened }
 
 -- the values do not matter, so take none
 pub memory-shared-one : (offsets sizes : List ℕ) (count : ℕ) → OneOutcome (λ (r : Bool). ((vs : List ℕ) → r ≡ anyShare (storesIn offsets vs sizes count)))

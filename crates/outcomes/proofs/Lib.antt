@@ -9,6 +9,11 @@ pub mod Zero
 pub mod Refusals
 pub mod Loader
 pub mod Schedule
+pub mod Values
+pub mod Expressions
+pub mod Source
+pub mod Evaluation
+pub mod Assembler
 pub mod Memory
 pub mod Machine
 pub mod Ticks
@@ -16,4 +21,5 @@ pub mod Run
 pub mod Call
 pub mod Sandbox
 pub mod Text
+pub mod Assembly
 pub mod Public

@@ -9,6 +9,11 @@ use Rattle.outcomes.proofs.Zero.{zero}
 use Rattle.outcomes.proofs.Refusals.{refusals}
 use Rattle.outcomes.proofs.Loader.{loader}
 use Rattle.outcomes.proofs.Schedule.{schedule}
+use Rattle.outcomes.proofs.Values.{values}
+use Rattle.outcomes.proofs.Expressions.{expressions}
+use Rattle.outcomes.proofs.Source.{source}
+use Rattle.outcomes.proofs.Evaluation.{evaluation}
+use Rattle.outcomes.proofs.Assembler.{assembler}
 use Rattle.outcomes.proofs.Memory.{memory}
 use Rattle.outcomes.proofs.Machine.{machine}
 use Rattle.outcomes.proofs.Ticks.{ticks}
@@ -16,6 +21,7 @@ use Rattle.outcomes.proofs.Run.{run}
 use Rattle.outcomes.proofs.Call.{call}
 use Rattle.outcomes.proofs.Sandbox.{sandbox}
 use Rattle.outcomes.proofs.Text.{text}
+use Rattle.outcomes.proofs.Assembly.{assembly}
 
 pub public : Public
 public = record {
@@ -27,6 +33,11 @@ public = record {
   refusals = refusals;
   loader = loader;
   schedule = schedule;
+  values = values;
+  expressions = expressions;
+  source = source;
+  evaluation = evaluation;
+  assembler = assembler;
   memory = memory;
   machine = machine;
   ticks = ticks;
@@ -34,5 +45,6 @@ public = record {
   call = call;
   sandbox = sandbox;
   text = text;
+  assembly = assembly;
   nothing = λ _ _ _ _. refl;
 }

@@ -5,6 +5,11 @@ use Rattle.outcomes.proofs.ByHand.{sandbox-vex-check-one}
 
 pub sandbox : Sandbox
 sandbox = record {
+  vex-assemble-one = λ _ _ _ _ _ p q. λ i. record {
+    result = (p ∙ sym q) i .result;
+    program = (p ∙ sym q) i .program;
+    room = (p ∙ sym q) i .room;
+  };
   vex-load-one = λ _ _ _ _ _ p q. λ i. record {
     result = (p ∙ sym q) i .result;
     room = (p ∙ sym q) i .room;

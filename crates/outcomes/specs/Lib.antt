@@ -8,6 +8,11 @@ pub mod Zero
 pub mod Refusals
 pub mod Loader
 pub mod Schedule
+pub mod Values
+pub mod Expressions
+pub mod Source
+pub mod Evaluation
+pub mod Assembler
 pub mod Memory
 pub mod Machine
 pub mod Ticks
@@ -15,4 +20,5 @@ pub mod Run
 pub mod Call
 pub mod Sandbox
 pub mod Text
+pub mod Assembly
 pub mod Public

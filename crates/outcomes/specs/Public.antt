@@ -8,6 +8,11 @@ use Rattle.outcomes.specs.Zero.{Zero}
 use Rattle.outcomes.specs.Refusals.{Refusals}
 use Rattle.outcomes.specs.Loader.{Loader}
 use Rattle.outcomes.specs.Schedule.{Schedule}
+use Rattle.outcomes.specs.Values.{Values}
+use Rattle.outcomes.specs.Expressions.{Expressions}
+use Rattle.outcomes.specs.Source.{Source}
+use Rattle.outcomes.specs.Evaluation.{Evaluation}
+use Rattle.outcomes.specs.Assembler.{Assembler}
 use Rattle.outcomes.specs.Memory.{Memory}
 use Rattle.outcomes.specs.Machine.{Machine}
 use Rattle.outcomes.specs.Ticks.{Ticks}
@@ -15,6 +20,7 @@ use Rattle.outcomes.specs.Run.{Run}
 use Rattle.outcomes.specs.Call.{Call}
 use Rattle.outcomes.specs.Sandbox.{Sandbox}
 use Rattle.outcomes.specs.Text.{Text}
+use Rattle.outcomes.specs.Assembly.{Assembly}
 
 pub record Public : Type 0 where
   pub word : Word
@@ -25,6 +31,11 @@ pub record Public : Type 0 where
   pub refusals : Refusals
   pub loader : Loader
   pub schedule : Schedule
+  pub values : Values
+  pub expressions : Expressions
+  pub source : Source
+  pub evaluation : Evaluation
+  pub assembler : Assembler
   pub memory : Memory
   pub machine : Machine
   pub ticks : Ticks
@@ -32,5 +43,6 @@ pub record Public : Type 0 where
   pub call : Call
   pub sandbox : Sandbox
   pub text : Text
+  pub assembly : Assembly
   -- a function that returns nothing and changes nothing has one outcome, even if it promises nothing
   pub nothing : OneOutcome (λ (o : record {}). Unit)

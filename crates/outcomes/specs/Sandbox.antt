@@ -4,11 +4,15 @@ use mathlib.Core.Path.{_≡_}
 use Prim.Native.Nat.{ℕ}
 use Rattle.loader.specs.Answer.{loadOutcome}
 use Rattle.schedule.specs.Answer.{Checks}
+use Rattle.assembler.specs.Answer.{assembleOutcome}
 use Rattle.call.specs.Run.{runOutcome}
 use Rattle.outcomes.specs.OneOutcome.{OneOutcome}
 
 pub record Sandbox : Type 0 where
   -- crates/sandbox/src/lib.rt
+  pub vex-assemble-one : (text program room : List ℕ)
+      → OneOutcome (λ (o : record { result : ℕ; program : List ℕ; room : List ℕ }).
+      record { result = o .result; program = o .program; room = o .room } ≡ assembleOutcome text program room)
   pub vex-load-one : (table program room : List ℕ)
       → OneOutcome (λ (o : record { result : ℕ; room : List ℕ }).
       record { result = o .result; room = o .room } ≡ loadOutcome table program room)

@@ -2,11 +2,13 @@
 // second/README.md has the format. No contract can say what is read or written; what is called is proved.
 use libc::STDIN_FILENO;
 
+mod assembles;
 mod programs;
+mod results;
 mod runs;
+mod sources;
 mod stream;
 mod texts;
-mod values;
 
 fn main() {
     let mut header = [0u8; 32];
@@ -18,11 +20,13 @@ fn main() {
         }
         let kind = header[3];
         let more = match kind {
-            1 => values::answer(&header),
+            1 => results::answer(&header),
             2 => programs::answer(&header, false),
             3 => programs::answer(&header, true),
             4 => runs::answer(&header),
             5 => texts::answer(&header),
+            6 => assembles::answer(&header),
+            7 => sources::answer(&header),
             _ => false,
         };
         if !more {

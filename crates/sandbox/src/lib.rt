@@ -1,6 +1,7 @@
 // What a host calls: extern "C" entries on numbers and byte slices. Each tests what it takes, and none asks anything of its caller.
 ghost use mathlib.Core.Path.{_≡_};
 ghost use Rattle.loader.specs.Answer.{loadOutcome};
+ghost use Rattle.assembler.specs.Answer.{assembleOutcome};
 ghost use Rattle.call.specs.Run.{runOutcome};
 ghost use Rattle.schedule.specs.Answer.{Answers, Checks};
 
@@ -13,6 +14,15 @@ use loader::answers;
 use runs::call;
 use schedule::answers::of_verdict;
 use tables::read;
+
+// Assembles a text: the syllables in the program, the answer in the room, and its number returned.
+#[no_mangle]
+pub extern "C" fn vex_assemble(text: &[u8], program: &mut [u8], room: &mut [u8]) -> u32
+    ensures { λ r. ⌜ record { result = r; program = now (program .exit); room = now (room .exit) }
+        ≡ assembleOutcome (now (text .entry)) (now (program .entry)) (now (room .entry)) ⌝ }
+{
+    assembler::assemble(text, program, room)
+}
 
 // Loads a program under a delay table: the answer in the room, and its number returned.
 #[no_mangle]

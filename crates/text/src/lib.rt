@@ -1,6 +1,6 @@
 // The text program: lines of hexadecimal in, lines of hexadecimal out.
 mod registers;
-mod rows;
+pub mod rows;
 mod running;
 
 ghost use mathlib.Core.Path.{_≡_};

@@ -28,7 +28,7 @@ fn put_hex(out: &mut [u8], at: usize, digits: usize, v: u64)
     }
 }
 
-fn put_field(out: &mut [u8], at: usize, digits: usize, v: u64, after: u8)
+pub fn put_field(out: &mut [u8], at: usize, digits: usize, v: u64, after: u8)
     requires { ⌜ at + digits < length (now out) ⌝ }
     ensures { λ _. ⌜ now (out .exit) ≡ sets (now (out .entry)) at (field digits v after) ⌝ }
 {

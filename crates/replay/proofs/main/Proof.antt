@@ -56,6 +56,18 @@ slice-aggregate-answer-5 c = search needs
 answer-requires-5 : tie.Need-answer-requires-5 Inv-loop μ-loop
 answer-requires-5 c κs = search needs
 
+slice-aggregate-answer-6 : tie.Need-slice-aggregate-answer-6 Inv-loop μ-loop
+slice-aggregate-answer-6 c = search needs
+
+answer-requires-6 : tie.Need-answer-requires-6 Inv-loop μ-loop
+answer-requires-6 c κs = search needs
+
+slice-aggregate-answer-7 : tie.Need-slice-aggregate-answer-7 Inv-loop μ-loop
+slice-aggregate-answer-7 c = search needs
+
+answer-requires-7 : tie.Need-answer-requires-7 Inv-loop μ-loop
+answer-requires-7 c κs = search needs
+
 returns-2 : tie.Need-returns-2 Inv-loop μ-loop
 returns-2 c = search needs
 
@@ -92,6 +104,10 @@ main-spec =
     answer-requires-4
     slice-aggregate-answer-5
     answer-requires-5
+    slice-aggregate-answer-6
+    answer-requires-6
+    slice-aggregate-answer-7
+    answer-requires-7
     returns-2
     add-counter
     loop-less

@@ -6,7 +6,7 @@ use second::state::State;
 /// The first byte that differs, with its field and index.
 pub fn difference(request: &Request, own: &[u8], other: &[u8]) -> String {
     let mut fields = request.fields();
-    if matches!(request, Request::Text(_)) {
+    if request.has_output() {
         fields.push(("output", own.len().max(other.len()) - 4));
     }
     let mut start = 0;
@@ -41,6 +41,7 @@ fn meaning(request: &Request, name: &str, index: usize) -> String {
             word => format!(" (store, opcode {})", word - 135 + 57),
         },
         (_, "room") => format!(" ({})", ["number", "count", "place"].get(index / 4).unwrap_or(&"")),
+        (_, "program") => format!(" (syllable {})", index / 4),
         (_, "state") if index < 4 => " (place)".to_string(),
         (_, "state") if index >= second::load::IMAGE_SIZE - 4 => " (link)".to_string(),
         (_, "state") => {
@@ -57,11 +58,11 @@ fn meaning(request: &Request, name: &str, index: usize) -> String {
     }
 }
 
-/// The start of both answers: for load, check and run the result and the room's words.
+/// The start of both answers: for load, check, run and assemble the result and the room's words.
 fn heads(request: &Request, own: &[u8], other: &[u8]) -> String {
     match request {
         Request::Values { .. } => String::new(),
-        Request::Text(_) => format!("here:\n{}there:\n{}", lines(&own[4..]), lines(&other[4..])),
+        Request::Text(_) | Request::Source(_) => format!("here:\n{}there:\n{}", lines(&own[4..]), lines(&other[4..])),
         _ => {
             let head = |answer: &[u8]| hex(&answer[..answer.len().min(16)], 16);
             format!("here {}\nthere {}\n", head(own), head(other))
@@ -110,8 +111,20 @@ pub fn call(request: &Request) -> String {
             call.n,
             call.room.len(),
         ),
-        Request::Text(input) => format!("text of {} bytes\n{}\n", input.len(), lines(&input[..input.len().min(4000)])),
+        Request::Text(input) => format!("text of {} bytes\n{}\n", input.len(), shortened(input)),
+        Request::Assemble(call) => format!(
+            "assemble\ntext of {} bytes\n{}\nprogram of {} bytes\nroom of {} bytes\n",
+            call.text.len(),
+            shortened(&call.text),
+            call.program.len(),
+            call.room.len(),
+        ),
+        Request::Source(input) => format!("source of {} bytes\n{}\n", input.len(), shortened(input)),
     }
+}
+
+fn shortened(text: &[u8]) -> String {
+    lines(&text[..text.len().min(4000)])
 }
 
 pub fn hex(bytes: &[u8], most: usize) -> String {

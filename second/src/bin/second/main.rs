@@ -18,7 +18,8 @@ const USAGE: &str = "\
 second KIND --seed S --count N [--first I] [-- COMMAND ..]
     compares a fixed set of calls and N random ones after it with the answers of the
     command, byte by byte; without a command this program answers itself.
-    KIND is values, load, check, run or text; --first leaves out the calls before the I-th
+    KIND is values, load, check, run, text, assemble or source; --first leaves out the
+    calls before the I-th
 second landings --seed S --count N [-- COMMAND ..]
     runs N programs that check passes with several landing lists each and
     compares them with the plain machine
@@ -36,10 +37,10 @@ second replay < requests > answers
 /// The form of a subcommand in one line, for whoever wrote another.
 const COMPARE: &str = "second KIND --seed S --count N [--first I] [-- COMMAND ..]";
 const LANDINGS: &str = "second landings --seed S --count N [-- COMMAND ..]";
-const RECORD: &str =
-    "second record KIND --seed S --count N [--first I] [--only I] > requests; KIND is values, load, check, run or text";
-const SELECT: &str =
-    "second select KIND --seed S --count N --each K --most B > requests; KIND is values, load, check, run or text";
+const RECORD: &str = "second record KIND --seed S --count N [--first I] [--only I] > requests; \
+    KIND is values, load, check, run, text, assemble or source";
+const SELECT: &str = "second select KIND --seed S --count N --each K --most B > requests; \
+    KIND is values, load, check, run, text, assemble or source";
 
 /// What stands on the command line after the subcommand.
 struct Options {

@@ -1,6 +1,6 @@
 //! Requests and answers as they go over the process boundary: 4-byte big-endian words and plain bytes.
 
-use second::{interface, syllable::Syllable, text, values};
+use second::{interface, source, syllable::Syllable, text, values};
 use std::io::{self, Read, Write};
 
 #[derive(Clone)]
@@ -22,12 +22,21 @@ pub struct Run {
 }
 
 #[derive(Clone)]
+pub struct Assemble {
+    pub text: Vec<u8>,
+    pub program: Vec<u8>,
+    pub room: Vec<u8>,
+}
+
+#[derive(Clone)]
 pub enum Request {
     Values { s1: u32, s2: u32, b: u32, syllable: u32 },
     Load(Program),
     Check(Program),
     Run(Run),
     Text(Vec<u8>),
+    Assemble(Assemble),
+    Source(Vec<u8>),
 }
 
 const VALUES_WORDS: usize = 138;
@@ -59,6 +68,11 @@ impl Request {
                 vec![&call.table, &call.program, &call.state, &call.memory, &call.landing, &call.room],
             ),
             Request::Text(input) => (vec![5, length(input)], vec![input]),
+            Request::Assemble(call) => (
+                vec![6, length(&call.text), length(&call.program), length(&call.room)],
+                vec![&call.text, &call.program, &call.room],
+            ),
+            Request::Source(input) => (vec![7, length(input)], vec![input]),
         };
         for index in 0..8 {
             to.write_all(&header.get(index).copied().unwrap_or(0).to_be_bytes())?;
@@ -102,6 +116,12 @@ impl Request {
                 room: string(word(7))?,
             }),
             5 => Request::Text(string(word(1))?),
+            6 => Request::Assemble(Assemble {
+                text: string(word(1))?,
+                program: string(word(2))?,
+                room: string(word(3))?,
+            }),
+            7 => Request::Source(string(word(1))?),
             kind => return Err(io::Error::new(io::ErrorKind::InvalidData, format!("no request kind {kind}"))),
         }))
     }
@@ -130,10 +150,12 @@ impl Request {
                 );
                 [&number.to_be_bytes()[..], &call.room, &call.state, &call.memory].concat()
             }
-            Request::Text(input) => {
-                let output = text::text(&input);
-                [&(output.len() as u32).to_be_bytes()[..], &output].concat()
+            Request::Text(input) => with_length(&text::text(&input)),
+            Request::Assemble(mut call) => {
+                let number = interface::assemble(&call.text, &mut call.program, &mut call.room);
+                [&number.to_be_bytes()[..], &call.room, &call.program].concat()
             }
+            Request::Source(input) => with_length(&source::source(&input)),
         }
     }
 
@@ -143,14 +165,19 @@ impl Request {
         for (_, length) in self.fields() {
             answer.extend(read_bytes(from, length)?);
         }
-        if matches!(self, Request::Text(_)) {
+        if self.has_output() {
             let length = u32::from_be_bytes([answer[0], answer[1], answer[2], answer[3]]);
             answer.extend(read_bytes(from, length as usize)?);
         }
         Ok(answer)
     }
 
-    /// The names and lengths of an answer's fields; a text's output follows them.
+    /// Whether the answer is a program's output.
+    pub fn has_output(&self) -> bool {
+        matches!(self, Request::Text(_) | Request::Source(_))
+    }
+
+    /// The names and lengths of an answer's fields; a program's output follows them.
     pub fn fields(&self) -> Vec<(&'static str, usize)> {
         match self {
             Request::Values { .. } => vec![("values", 4 * VALUES_WORDS)],
@@ -161,9 +188,16 @@ impl Request {
                 ("state", call.state.len()),
                 ("memory", call.memory.len()),
             ],
-            Request::Text(_) => vec![("output length", 4)],
+            Request::Assemble(call) => {
+                vec![("result", 4), ("room", call.room.len()), ("program", call.program.len())]
+            }
+            Request::Text(_) | Request::Source(_) => vec![("output length", 4)],
         }
     }
+}
+
+fn with_length(output: &[u8]) -> Vec<u8> {
+    [&(output.len() as u32).to_be_bytes()[..], output].concat()
 }
 
 fn read_bytes(from: &mut dyn Read, length: usize) -> io::Result<Vec<u8>> {
@@ -227,6 +261,8 @@ mod tests {
             Request::Check(Program { table: vec![], program: vec![9; 5], room: vec![] }),
             Request::Run(run),
             Request::Text(b"00\n".to_vec()),
+            Request::Assemble(Assemble { text: b"c0 nop".to_vec(), program: vec![7; 9], room: vec![8; 11] }),
+            Request::Source(b"c0 nop".to_vec()),
         ];
         let stream: Vec<u8> = requests.iter().flat_map(written).collect();
         let mut rest = &stream[..];

@@ -1,16 +1,19 @@
 //! Generated calls. Each request has its own random numbers, from the seed and its index.
 
 pub mod accesses;
+pub mod assembles;
 pub mod breaks;
 pub mod build;
 pub mod checks;
 pub mod draft;
 pub mod loads;
+pub mod notation;
 pub mod pairs;
 pub mod random;
 pub mod runs;
 pub mod schedule;
 pub mod singles;
+pub mod sources;
 pub mod states;
 pub mod tables;
 pub mod texts;
@@ -25,6 +28,8 @@ pub enum Kind {
     Check,
     Run,
     Text,
+    Assemble,
+    Source,
 }
 
 impl Kind {
@@ -35,6 +40,8 @@ impl Kind {
             "check" => Some(Kind::Check),
             "run" => Some(Kind::Run),
             "text" => Some(Kind::Text),
+            "assemble" => Some(Kind::Assemble),
+            "source" => Some(Kind::Source),
             _ => None,
         }
     }
@@ -46,7 +53,8 @@ impl Kind {
             Kind::Load => singles::LOADS,
             Kind::Check => singles::CHECKS,
             Kind::Run => singles::RUNS,
-            Kind::Text => 0,
+            Kind::Assemble => assembles::fixed(),
+            Kind::Text | Kind::Source => 0,
         }
     }
 
@@ -63,6 +71,9 @@ impl Kind {
             Kind::Run if fixed => Request::Run(singles::run(index)),
             Kind::Run => Request::Run(runs::call(&mut random)),
             Kind::Text => Request::Text(texts::input(&mut random)),
+            Kind::Assemble if fixed => Request::Assemble(assembles::fixed_call(index)),
+            Kind::Assemble => Request::Assemble(assembles::call(&mut random)),
+            Kind::Source => Request::Source(sources::input(&mut random)),
         }
     }
 }

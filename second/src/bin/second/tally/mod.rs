@@ -1,11 +1,14 @@
 //! Counts how often each number, place kind and cause occurred.
 
+mod assembles;
 mod clashes;
 mod loads;
+mod misreads;
 mod passes;
 mod refusals;
 mod roles;
 mod runs;
+mod spellings;
 mod texts;
 mod ways;
 
@@ -40,6 +43,8 @@ impl Tally {
             Request::Check(call) => self.checked(call),
             Request::Run(call) => runs::ran(self, call),
             Request::Text(input) => texts::read(self, input),
+            Request::Assemble(call) => assembles::assembled(self, call),
+            Request::Source(input) => assembles::printed(self, input),
         }
     }
 

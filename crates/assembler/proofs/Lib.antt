@@ -1,0 +1,10 @@
+pub mod Numbers
+pub mod Verdicts
+pub mod Instructions
+pub mod Counts
+pub mod Judged
+pub mod Numbering
+pub mod Tables
+pub mod Answers
+pub mod Putting
+pub mod Grammars

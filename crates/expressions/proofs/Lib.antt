@@ -1,0 +1,12 @@
+pub mod Got
+pub mod Operators
+pub mod Loops
+pub mod Sound
+pub mod Complete
+pub mod Runs
+pub mod Steps
+pub mod Words
+pub mod Scan
+pub mod Passing
+pub mod Scanned
+pub mod Skips

@@ -1,0 +1,6 @@
+pub mod Grammar
+pub mod Meaning
+pub mod Reader
+pub mod Skipped
+pub mod Valued
+pub mod Promise

@@ -1,0 +1,13 @@
+pub mod Spellings
+pub mod Judged
+pub mod Finite
+pub mod Rows
+pub mod Naming
+pub mod Found
+pub mod Steps
+pub mod Letters
+pub mod Gathering
+pub mod Reading
+pub mod Sound
+pub mod Ends
+pub mod Complete

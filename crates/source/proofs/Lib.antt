@@ -1,0 +1,9 @@
+pub mod Names
+pub mod Cutting
+pub mod Tokens
+pub mod Heard
+pub mod Walks
+pub mod Places
+pub mod Complete
+pub mod Sound
+pub mod OneWay

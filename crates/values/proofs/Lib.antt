@@ -1,0 +1,3 @@
+pub mod Range
+pub mod Products
+pub mod Decimals
