@@ -1,4 +1,6 @@
 // Standard input, assembled, to standard output. No contract can say what is read or written; what is called is proved.
+#![tactic(auto)]
+
 use libc::{STDIN_FILENO, STDOUT_FILENO};
 
 fn main() {

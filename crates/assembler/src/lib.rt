@@ -1,4 +1,6 @@
 // The assembler: a text in the notation, read into syllables.
+#![tactic(auto)]
+
 ghost use Rattle.std.specs.Prelude.{◌≡◌};
 ghost use Rattle.assembler.specs.Answer.{unfit, assembled, assemble_outcome};
 ghost use Rattle.assembler.specs.Promise.{LowestFirst, ByGrammar, Counted};

@@ -1,4 +1,6 @@
 // The program assemble: a text in the notation in, its syllables in hexadecimal out.
+#![tactic(auto)]
+
 mod printing;
 
 ghost use Rattle.std.specs.Prelude.{◌≡◌, ◌≤◌, length};

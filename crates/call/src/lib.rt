@@ -1,4 +1,6 @@
 // A call of run: what it replies. What it comes to, and all that it leaves, is defined in specs/Run.antt.
+#![tactic(auto)]
+
 pub mod replies;
 
 use isa::{Count, Place};

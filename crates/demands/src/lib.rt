@@ -1,5 +1,7 @@
 // What is proved of the entries' promises: document 01's three demands. The functions do nothing: the promise of each is the theorem, so that
 // nobody drops it unseen.
+#![tactic(auto)]
+
 ghost use Rattle.demands.specs.Demand1.{Demand1};
 ghost use Rattle.demands.specs.Demand2.{Demand2};
 ghost use Rattle.demands.specs.Demand3.{Demand3};

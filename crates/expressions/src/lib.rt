@@ -1,4 +1,6 @@
 // Where an expression ends, found without its value: a loop that counts the brackets which are open.
+#![tactic(auto)]
+
 ghost use Rattle.std.specs.Prelude.{◌≡◌, ◌≤◌, ◌<◌, length, drop};
 ghost use Rattle.tokens.specs.Tokens.{tokens, is_decimal, is_letter};
 ghost use Rattle.expressions.specs.Grammar.{is_number, is_label};

@@ -1,7 +1,7 @@
 -- What the pass keeps: of no operation, of one more, and of an instruction's syllables.
 use mathlib.Core.Path.{◌≡◌, refl, sym, ◌∙◌}
 use mathlib.Core.Bool.{Bool, false, ◌||◌}
-use mathlib.Core.Bool.{or_false as or_nothing}
+use mathlib.Core.Bool.{or-false as or_nothing}
 use mathlib.Core.List.{List, [], ◌∷◌, ◌++◌, map, map-append}
 use Prim.Native.Nat.{ℕ, suc, ◌+◌, ◌-◌, ◌≤◌, ◌<◌}
 use native.Mathlib.Numerals.{add-one}

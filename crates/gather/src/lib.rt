@@ -1,4 +1,6 @@
 // One pass over an instruction's operations: everything is read, and nothing is written but scratch.
+#![tactic(auto)]
+
 ghost use Rattle.std.specs.Prelude.{◌≡◌, true, false, List, [], ◌∷◌, ◌++◌, map, ℕ, ◌+◌, ◌≤◌, ◌<◌, length, get_or};
 ghost use Rattle.word.specs.Bytes.{words, number_at};
 ghost use Rattle.ops.specs.Value.{loaded, stored};

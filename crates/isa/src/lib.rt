@@ -1,4 +1,6 @@
 // The encoding: what a syllable's bits say, how syllables make instructions, and where a control operation goes.
+#![tactic(auto)]
+
 pub mod control;
 pub mod decode;
 pub mod program;

@@ -1,4 +1,6 @@
 // Loading: every program is taken, or refused with its number and place.
+#![tactic(auto)]
+
 pub mod answers;
 mod numbers;
 

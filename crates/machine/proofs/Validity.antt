@@ -1,7 +1,7 @@
 -- Laws of validity: of two banks, and what each register of a valid state has.
 use mathlib.Core.Path.{◌≡◌, refl, sym, ap, ◌∙◌}
 use mathlib.Core.Bool.{Bool, true, false, not, ◌||◌, ◌&&◌}
-use mathlib.Core.Bool.{or_true as or-all, or_false as or_nothing}
+use mathlib.Core.Bool.{or-true as or_all, or-false as or_nothing}
 use mathlib.Core.List.{List}
 use Prim.Native.Nat.{ℕ, zero, suc, ◌+◌, ◌%◌, ◌≤◌, ◌<◌}
 use native.Mathlib.Nat.{zero-add, add-zero, add-suc, le_step, le_refl}
@@ -20,7 +20,7 @@ use Rattle.machine.proofs.Arrays.{cell_of, general_at_lem, branch_at}
 -- ---- two banks
 
 or_swap : (a b c : Bool) → a || (b || c) ≡ b || (a || c)
-or_swap a true c = or-all a
+or_swap a true c = or_all a
 or_swap a false c = refl
 
 any_below_add : (f : ℕ → Bool) (m n : ℕ) → any_below f (m + n) ≡ any_below f m || any_below (λ k. f (m + k)) n

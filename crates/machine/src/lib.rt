@@ -1,4 +1,6 @@
 // The machine: its state, the image of it and validity. What an instruction does is defined here; the crate run has the code.
+#![tactic(auto)]
+
 pub mod image;
 pub mod valid;
 

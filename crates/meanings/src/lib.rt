@@ -1,5 +1,7 @@
 // The value of each operation: the table and its laws are in specs/, the laws' proofs in proofs/. No code runs here; the crate ops computes
 // the values.
+#![tactic(auto)]
+
 ghost use Rattle.meanings.specs.Value.{value, carry, address, loaded, stored};
 ghost use Rattle.meanings.specs.Laws.{Laws};
 ghost use Rattle.meanings.specs.Settled.{Settled};

@@ -1,4 +1,6 @@
 // Loads and stores of an instruction: the fault of an access, what is read, and the stores, which wait until everything is read.
+#![tactic(auto)]
+
 ghost use Rattle.std.specs.Prelude.{◌≡◌, ◌&&◌, List, ℕ, ◌+◌, ◌≤◌, ◌<◌, ltb, length, get_or, set};
 ghost use Rattle.word.specs.Bytes.{number_at, put_number};
 ghost use Rattle.word.specs.Lists.{any};

@@ -1,4 +1,6 @@
 // Operations: what stands at a place of a line.
+#![tactic(auto)]
+
 ghost use Rattle.std.specs.Prelude.{◌≡◌, ◌≤◌, length, drop};
 ghost use Rattle.tokens.specs.Tokens.{tokens};
 ghost use Rattle.expressions.specs.Reader.{map_got};

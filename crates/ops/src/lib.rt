@@ -1,4 +1,6 @@
 // The operations' values: one function for each, and a dispatch by opcode over them.
+#![tactic(auto)]
+
 ghost use Rattle.std.specs.Prelude.{◌≡◌};
 ghost use Rattle.ops.specs.Value.{value};
 

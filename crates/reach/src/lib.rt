@@ -1,4 +1,6 @@
 // What a producer reaches, breadth first: places in ascending order, each with the fewest nexts that lead there.
+#![tactic(auto)]
+
 ghost use Rattle.std.specs.Prelude.{◌≡◌, true, [], ◌∷◌, ℕ, ◌≤◌, ◌<◌, length, get_or};
 ghost use Rattle.word.specs.Bytes.{words};
 ghost use Rattle.isa.specs.Program.{is_start};

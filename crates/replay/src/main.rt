@@ -1,5 +1,7 @@
 // Performs recorded calls, for the second program: a stream of requests on standard input, a stream of answers on standard output.
 // second/README.md has the format. No contract can say what is read or written; what is called is proved.
+#![tactic(auto)]
+
 use libc::STDIN_FILENO;
 
 mod assembles;

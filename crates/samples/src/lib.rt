@@ -1,5 +1,7 @@
 // Examples of the promises, and wrong programs that break them. The functions do nothing: the promise of each is the theorem, so that nobody
 // drops it unseen.
+#![tactic(auto)]
+
 ghost use Rattle.samples.specs.Clusters.{Clusters};
 ghost use Rattle.samples.specs.Promise.{Load, Check, Run};
 

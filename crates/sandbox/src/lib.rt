@@ -1,4 +1,6 @@
 // What a host calls: extern "C" entries on numbers and byte slices. Each tests what it takes, and none asks anything of its caller.
+#![tactic(auto)]
+
 ghost use Rattle.std.specs.Prelude.{◌≡◌};
 ghost use Rattle.loader.specs.Answer.{load_outcome};
 ghost use Rattle.assembler.specs.Answer.{assemble_outcome};

@@ -1,4 +1,6 @@
 // The schedule check: a schedule is refused exactly if some path touches a result too soon.
+#![tactic(auto)]
+
 ghost use Rattle.word.specs.Bytes.{words};
 ghost use Rattle.tables.specs.Bounds.{Bounds};
 ghost use Rattle.loader.specs.Passed.{Passed};

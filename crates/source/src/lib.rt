@@ -1,4 +1,6 @@
 // The lines of a text: what each says, and where labels are given.
+#![tactic(auto)]
+
 ghost use Rattle.source.specs.Promise.{Unique, Exact};
 
 pub mod reading; // reading.rt: one line

@@ -1,4 +1,6 @@
 // The delay table: whether its bytes keep the limits, and what they say.
+#![tactic(auto)]
+
 ghost use Rattle.std.specs.Prelude.{◌≡◌, ltb, get_or};
 ghost use Rattle.word.specs.Choice.{pick};
 ghost use Rattle.word.specs.Lists.{any_below};

@@ -1,4 +1,6 @@
 // The text program: lines of hexadecimal in, lines of hexadecimal out.
+#![tactic(auto)]
+
 mod registers;
 pub mod rows;
 mod running;

@@ -1,4 +1,6 @@
 // The registers in the run's loop: ticks in place of counts, so that nothing is stored when time passes.
+#![tactic(auto)]
+
 ghost use Rattle.std.specs.Prelude.{◌≡◌, ◌≢◌, ◌++◌, ◌∷◌, [], ℕ, ◌+◌, ◌-◌, ◌≤◌, ◌<◌, ltb, length, get_or, set, drop};
 ghost use Rattle.word.specs.Lists.{any_below};
 ghost use Rattle.std.proofs.lemmas.List.Edits.{sets};

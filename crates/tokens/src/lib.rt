@@ -1,4 +1,6 @@
 // The tokens of a line, found one at a time.
+#![tactic(auto)]
+
 ghost use Rattle.std.specs.Prelude.{◌≡◌, true, false, ◌≤◌, length, take, drop};
 ghost use Rattle.lines.specs.Lines.{every};
 ghost use Rattle.tokens.specs.Tokens.{is_word_byte, is_blank, starts_word, goes_on, first, tokens};

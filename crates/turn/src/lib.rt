@@ -1,4 +1,6 @@
 // A turn of the run's loop: one instruction, gathered from its operations, then written.
+#![tactic(auto)]
+
 ghost use Rattle.std.specs.Prelude.{◌≡◌, true, false, List, ℕ, ◌*◌, ◌≤◌, ◌<◌};
 ghost use Rattle.word.specs.Bytes.{words};
 ghost use Rattle.memory.specs.Memory.{any_share};

@@ -1,4 +1,6 @@
 // Values of expressions, and their arithmetic.
+#![tactic(auto)]
+
 ghost use Rattle.std.specs.Prelude.{◌≡◌, true, ◌+◌, ◌*◌, ◌<◌, ◌≤◌};
 ghost use Rattle.lines.specs.Lines.{every};
 ghost use Rattle.tokens.specs.Tokens.{is_decimal};

@@ -1,4 +1,6 @@
 // The abstract machine: its definitions are in specs/, its theorem in proofs/Demand3.antt. No code runs here.
+#![tactic(auto)]
+
 ghost use Rattle.std.specs.Prelude.{List, ℕ};
 ghost use Rattle.vliw.specs.Demand3.{AnyDemand3};
 

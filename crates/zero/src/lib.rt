@@ -1,4 +1,6 @@
 // Refusal 4: a bit that should be zero is set.
+#![tactic(auto)]
+
 ghost use Rattle.std.specs.Prelude.{◌≡◌, ℕ, ◌≤◌};
 ghost use Rattle.isa.specs.Syllable.{bits};
 ghost use Rattle.zero.specs.Zero.{set, beside_register, bad_bits_as, bad_bits};

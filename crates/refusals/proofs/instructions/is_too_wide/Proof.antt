@@ -2,7 +2,7 @@
 use borrow.Author.Rules.{rules}
 use mathlib.Core.Path.{◌≡◌, refl, sym, ap, ◌∙◌}
 use mathlib.Core.Bool.{Bool, true, false, ◌||◌, ◌&&◌, true≢false}
-use mathlib.Core.Bool.{or_false as or_nothing}
+use mathlib.Core.Bool.{or-false as or_nothing}
 use mathlib.Core.Logic.{⊎_elim}
 use mathlib.Core.List.{List, []}
 use Prim.Native.Nat.{◌+◌, ◌-◌, ◌≤◌}

@@ -2,7 +2,7 @@
 use borrow.Author.Rules.{rules}
 use mathlib.Core.Path.{◌≡◌, refl, sym, ap, ◌∙◌}
 use mathlib.Core.Bool.{Bool, true, false, ◌||◌}
-use mathlib.Core.Bool.{or_false as or_nothing}
+use mathlib.Core.Bool.{or-false as or_nothing}
 use mathlib.Core.List.{List}
 use Rattle.isa.specs.Syllable.{opcode, is_alu, is_mul, is_mem, is_copy}
 use Rattle.isa.specs.declared.Spot.{Spot}
