@@ -16,7 +16,7 @@ use source::reading::{Line, line_length, read};
 use source::seeking::Seen;
 use source::walking::{Walk, is_refused, step};
 
-#[derive(Drop)]
+#[derive(Clone, Copy)]
 pub enum Verdict {
     // no fault, and how many syllables there are
     Sound(usize),

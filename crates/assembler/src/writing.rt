@@ -21,7 +21,7 @@ use source::walking::{Walk, is_refused, step};
 use word::number::put_word;
 
 // How many syllables are put, and the one that is kept.
-#[derive(Drop)]
+#[derive(Clone, Copy)]
 pub struct Put {
     pub out: usize,
     pub last: u32,

@@ -8,7 +8,7 @@ use loader::Refusal;
 use vliw::Ending;
 
 // What stood against loading, a state that is not valid, or how the run ended, after how many instructions and where.
-#[derive(Drop)]
+#[derive(Clone, Copy)]
 pub enum Reply {
     Refused(Refusal),
     BadState,

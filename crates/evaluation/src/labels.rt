@@ -13,7 +13,7 @@ use source::seeking::{Seen, search};
 use source::walking::Walk;
 use values::Value;
 
-#[derive(Drop)]
+#[derive(Clone, Copy)]
 pub struct Known {
     // labels in the table
     pub n: usize,

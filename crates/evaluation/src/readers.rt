@@ -14,14 +14,14 @@ use expressions::{is_label, is_number};
 use tokens::{Next, token_at};
 use values::Value;
 
-#[derive(Drop)]
+#[derive(Clone, Copy)]
 pub enum Read {
     Bad,
     // the place after it, and the value
     At(usize, Value),
 }
 
-#[derive(Drop)]
+#[derive(Clone, Copy)]
 pub enum Operator {
     No,
     // the byte, and the place after it

@@ -10,7 +10,7 @@ ghost use Rattle.expressions.specs.Promise.{Unique, Exact};
 
 use tokens::{Next, token_at};
 
-#[derive(Drop)]
+#[derive(Clone, Copy)]
 pub enum End {
     Nowhere,
     // the place after it

@@ -28,7 +28,7 @@ use memory::{Access, FirstFault};
 
 // Where the operations so far go on: that is open, they stop, it is set to a place, they call there, or go back to the link. Apart from the
 // place, since copying isa's Turn once for each operation makes the loop twice as slow (docs/DECISIONS.md).
-#[derive(Drop)]
+#[derive(Clone, Copy)]
 pub enum Course {
     Open,
     Stop,
@@ -39,7 +39,7 @@ pub enum Course {
 
 // What the operations so far came to: whether one names a register in flight, and then nothing else counts; where the first that decides it
 // goes on; the first fault of their accesses; and how many results and stores are in scratch.
-#[derive(Drop)]
+#[derive(Clone, Copy)]
 pub struct Seen {
     pub busy: bool,
     pub course: Course,
@@ -50,7 +50,7 @@ pub struct Seen {
 }
 
 // The values of what an operation reads: s1, s2 or the immediate, and b.
-#[derive(Drop)]
+#[derive(Clone, Copy)]
 pub struct Operands {
     pub x: u32,
     pub y: u32,
@@ -429,7 +429,7 @@ fn accesses(
 // ---- where to go on
 
 // A turn as a course and its place.
-#[derive(Drop)]
+#[derive(Clone, Copy)]
 struct Aim {
     course: Course,
     place: Place,

@@ -10,26 +10,26 @@ pub mod touch;
 pub mod truth;
 
 // A syllable's index in the program.
-#[derive(Drop)]
+#[derive(Clone, Copy)]
 pub struct Place(pub usize);
 
 // A syllable's index in its instruction's stretch.
-#[derive(Drop)]
+#[derive(Clone, Copy)]
 pub struct Slot(pub usize);
 
 // A count of executed instructions.
-#[derive(Drop)]
+#[derive(Clone, Copy)]
 pub struct Count(pub u64);
 
 // The lowest place that passes a test.
-#[derive(Drop)]
+#[derive(Clone, Copy)]
 pub enum Found {
     At(Place),
     Nothing,
 }
 
 // The form of an opcode: what its fields are.
-#[derive(Drop)]
+#[derive(Clone, Copy)]
 pub enum Format {
     Still,
     Two,
@@ -45,7 +45,7 @@ pub enum Format {
 }
 
 // A syllable as it stands in a program: whether it is its instruction's first, its last, and how many clusters are opened there with it.
-#[derive(Drop)]
+#[derive(Clone, Copy)]
 pub struct Spot {
     pub first: bool,
     pub last: bool,
@@ -55,7 +55,7 @@ pub struct Spot {
 
 // The way that a syllable goes: along with the others, nowhere, to a target, there if its branch register holds the wanted value, there with
 // the link set to what follows, or to the link.
-#[derive(Drop)]
+#[derive(Clone, Copy)]
 pub enum Way {
     Along,
     Stop,
@@ -67,7 +67,7 @@ pub enum Way {
 
 // Where an operation sends its instruction, once it runs: it leaves that to the others, it stops, goes to a place, calls there, or goes back
 // to the link.
-#[derive(Drop)]
+#[derive(Clone, Copy)]
 pub enum Turn {
     Onward,
     Stops,
@@ -77,7 +77,7 @@ pub enum Turn {
 }
 
 // Where an instruction may go on.
-#[derive(Drop)]
+#[derive(Clone, Copy)]
 pub enum Nexts {
     Nowhere,
     One(Place),
@@ -86,7 +86,7 @@ pub enum Nexts {
 
 // A syllable, decoded. Registers by number, where 0 stands for none: s1, s2, b (or a branch's condition) and a store's register are
 // read, t and addcg's carry are written. The immediate stands in for s2; the offset is added to s1 for an address.
-#[derive(Drop)]
+#[derive(Clone, Copy)]
 pub struct Op {
     pub opcode: u32,
     pub s1: u32,
@@ -101,14 +101,14 @@ pub struct Op {
 }
 
 // What a syllable writes: registers by number, 0 where there is none.
-#[derive(Drop)]
+#[derive(Clone, Copy)]
 pub struct Destinations {
     pub t: u32,
     pub carry: u32,
 }
 
 // The five delays.
-#[derive(Drop)]
+#[derive(Clone, Copy)]
 pub struct Delays {
     pub alu: u64,
     pub cmpb: u64,
@@ -118,7 +118,7 @@ pub struct Delays {
 }
 
 // The delay table: of each cluster its width and its count of each class, 0 from C up.
-#[derive(Drop)]
+#[derive(Clone, Copy)]
 pub struct Table {
     pub clusters: usize,
     pub width: [u8; 4],

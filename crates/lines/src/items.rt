@@ -8,13 +8,13 @@ ghost use Rattle.lines.specs.declared.items.Item.TheVariants.{Bad, Inner, Last};
 
 use isa::syllable;
 
-#[derive(Drop)]
+#[derive(Clone, Copy)]
 pub enum Number {
     Is(u32),
     Not,
 }
 
-#[derive(Drop)]
+#[derive(Clone, Copy)]
 pub enum Item {
     Bad,
     // a blank follows

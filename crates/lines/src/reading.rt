@@ -7,7 +7,7 @@ use crate::items::{Item, item_at, syllable_at};
 use word::number::put_word;
 
 // How much of a table and of a program was read: bytes, and syllables.
-#[derive(Drop)]
+#[derive(Clone, Copy)]
 pub struct Sizes {
     pub table: usize,
     pub memory: u32,
@@ -16,20 +16,20 @@ pub struct Sizes {
 }
 
 // How far reading came: so many bytes or lines, or nothing where an item is bad.
-#[derive(Drop)]
+#[derive(Clone, Copy)]
 pub enum Upto {
     At(usize),
     Nothing,
 }
 
 // What reading finds: the lowest line that is bad or missing, or a text.
-#[derive(Drop)]
+#[derive(Clone, Copy)]
 pub enum Reading {
     Line(usize),
     Text(Sizes),
 }
 
-#[derive(Drop)]
+#[derive(Clone, Copy)]
 pub enum Syllables {
     Unread(usize),
     Count(usize),

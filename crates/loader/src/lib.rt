@@ -8,7 +8,7 @@ use isa::Place;
 pub use numbers::{bad_program_length, load, load_with};
 
 // What stands against loading, with its place where document 01 gives one.
-#[derive(Drop)]
+#[derive(Clone, Copy)]
 pub enum Refusal {
     BadTable,
     ProgramLength,
@@ -23,14 +23,14 @@ pub enum Refusal {
     BadControl(Place),
 }
 
-#[derive(Drop)]
+#[derive(Clone, Copy)]
 pub enum Loaded {
     Good,
     Refused(Refusal),
 }
 
 // What a call answers: the paper's number, the executed count and a place.
-#[derive(Drop)]
+#[derive(Clone, Copy)]
 pub struct Answer {
     pub number: u32,
     pub count: u64,

@@ -14,14 +14,14 @@ use vliw::Fault;
 use word::number::{byte_at, half_at, put_byte, put_half, put_word, word_at};
 
 // Where an access goes: to memory, at an offset, or nowhere.
-#[derive(Drop)]
+#[derive(Clone, Copy)]
 pub enum Access {
     To(u32),
     Refused(Fault),
 }
 
 // The first fault of an instruction's accesses, if there is one.
-#[derive(Drop)]
+#[derive(Clone, Copy)]
 pub enum FirstFault {
     None,
     First(Fault),

@@ -21,7 +21,7 @@ pub mod table; // table.rt: the names and the letters of their items
 mod words; // words.rt: clusters, registers, names
 
 // The syllable of an operation, without bits 31 and 30.
-#[derive(Drop)]
+#[derive(Clone, Copy)]
 pub enum Syllable {
     Is(u32),
     // 19: a label that no line gives
@@ -30,7 +30,7 @@ pub enum Syllable {
     Outside,
 }
 
-#[derive(Drop)]
+#[derive(Clone, Copy)]
 pub struct Operation {
     pub cluster: u32,
     // what name and registers fill
@@ -42,34 +42,34 @@ pub struct Operation {
 }
 
 // A register's word: letter, cluster, number.
-#[derive(Drop)]
+#[derive(Clone, Copy)]
 pub enum Register {
     Not,
     Is(u8, u32, u32),
 }
 
 // A cluster, and the place after it.
-#[derive(Drop)]
+#[derive(Clone, Copy)]
 pub enum Numbered {
     Not,
     At(usize, u32),
 }
 
 // A register at a place: the place after it, letter, cluster, number.
-#[derive(Drop)]
+#[derive(Clone, Copy)]
 pub enum Named {
     Not,
     At(usize, u8, u32, u32),
 }
 
 // An item at a place: the place after it, what it adds to the bits, its field and where its expression begins.
-#[derive(Drop)]
+#[derive(Clone, Copy)]
 pub enum Step {
     Bad,
     At(usize, u32, u32, usize),
 }
 
-#[derive(Drop)]
+#[derive(Clone, Copy)]
 pub enum Parsed {
     Not,
     // the place after it

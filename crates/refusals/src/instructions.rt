@@ -18,7 +18,7 @@ use isa::syllable::{is_alu, is_copy, is_mem, is_mul, opcode, source};
 use isa::{Found, Place, Spot, Table};
 
 // What a test of one instruction says: it breaks it, or the place after the instruction.
-#[derive(Drop)]
+#[derive(Clone, Copy)]
 struct Tested {
     broken: bool,
     next: Place,

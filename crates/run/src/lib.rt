@@ -24,7 +24,7 @@ use turn::{Link, Stepped, step};
 use vliw::Ending;
 
 // How a run ended, after how many instructions, where, and with which link.
-#[derive(Drop)]
+#[derive(Clone, Copy)]
 pub struct Ended {
     pub ending: Ending,
     pub count: Count,

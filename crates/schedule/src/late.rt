@@ -12,7 +12,7 @@ use isa::touch::delay;
 use isa::{Delays, Slot};
 
 // How many there are, and the longest delay.
-#[derive(Drop)]
+#[derive(Clone, Copy)]
 pub struct Late {
     pub count: usize,
     pub longest: usize,

@@ -18,7 +18,7 @@ mod late;
 mod touches;
 
 // The lowest producer and, for it, the lowest consumer.
-#[derive(Drop)]
+#[derive(Clone, Copy)]
 pub enum Verdict {
     Good,
     TooSoon(Place, Place),

@@ -10,7 +10,7 @@ use expressions::is_label;
 use operations::{Operation, Parsed, parse};
 use tokens::{Next, token_at};
 
-#[derive(Drop)]
+#[derive(Clone, Copy)]
 pub struct Line {
     // as it should be
     pub read: bool,
@@ -26,7 +26,7 @@ pub struct Line {
 }
 
 // The label that a line begins with, and the place behind its colon.
-#[derive(Drop)]
+#[derive(Clone, Copy)]
 pub struct Label {
     pub labelled: bool,
     pub from: usize,
@@ -34,13 +34,13 @@ pub struct Label {
     pub rest: usize,
 }
 
-#[derive(Drop)]
+#[derive(Clone, Copy)]
 pub enum Behind {
     No,
     Place(usize),
 }
 
-#[derive(Drop)]
+#[derive(Clone, Copy)]
 pub enum Ends {
     Wrong,
     Is(bool),

@@ -7,7 +7,7 @@ ghost use Rattle.source.specs.Seek.{walk_of, hear_from, seek};
 use crate::reading::{gives, line_length, read};
 use crate::walking::{Walk, step};
 
-#[derive(Drop)]
+#[derive(Clone, Copy)]
 pub enum Seen {
     Nowhere,
     // the place of its line, and its value

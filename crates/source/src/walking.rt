@@ -6,7 +6,7 @@ ghost use Rattle.source.specs.Seek.{does_in, heard_in, walk_of};
 
 use crate::reading::Line;
 
-#[derive(Drop)]
+#[derive(Clone, Copy)]
 pub struct Walk {
     // syllables so far
     pub count: usize,

@@ -7,7 +7,7 @@ ghost use Rattle.tokens.specs.Tokens.{is_word_byte, is_blank, starts_word, goes_
 ghost use Rattle.tokens.specs.Reading.{next_tokens, Onwards};
 ghost use Rattle.tokens.specs.Promise.{OneWay};
 
-#[derive(Drop)]
+#[derive(Clone, Copy)]
 pub enum Next {
     End,
     // from, to

@@ -18,7 +18,7 @@ use ticks::{any_late, commit};
 use vliw::{Ending, Fault};
 
 // The link, and whether an instruction starts there: asked when a call of run begins, and true after a call, so that no return asks again.
-#[derive(Drop)]
+#[derive(Clone, Copy)]
 pub struct Link {
     pub place: Place,
     pub starts: bool,
@@ -26,14 +26,14 @@ pub struct Link {
 
 // How one instruction ended: it went on to a place, took so many landing bytes, and left a tick from which on no register is busy and a
 // link; or it ends the run.
-#[derive(Drop)]
+#[derive(Clone, Copy)]
 pub enum Stepped {
     On(Place, usize, Count, Link),
     Off(Ending),
 }
 
 // What a run ends with at an instruction, if it does.
-#[derive(Drop)]
+#[derive(Clone, Copy)]
 pub enum Halt {
     Nothing,
     Ends(Ending),

@@ -6,7 +6,7 @@ ghost use Rattle.lines.specs.Lines.{every};
 ghost use Rattle.tokens.specs.Tokens.{is_decimal};
 ghost use Rattle.values.specs.Values.{add, sub, mul, whole, held, within, both, decimal};
 
-#[derive(Drop)]
+#[derive(Clone, Copy)]
 pub enum Value {
     // 2^31 more than the value
     Is(u32),

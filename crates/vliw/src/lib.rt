@@ -5,7 +5,7 @@ ghost use Rattle.std.specs.Prelude.{List, ℕ};
 ghost use Rattle.vliw.specs.Demand3.{AnyDemand3};
 
 // What an instruction may fault with, in the order of the customer's numbers.
-#[derive(Drop)]
+#[derive(Clone, Copy)]
 pub enum Fault {
     InFlight,
     Misaligned,
@@ -15,7 +15,7 @@ pub enum Fault {
 }
 
 // How a run ends. `number_of` of specs/Run.antt gives the customer's number of each.
-#[derive(Drop)]
+#[derive(Clone, Copy)]
 pub enum Ending {
     Paused,
     Stopped,
