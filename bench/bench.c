@@ -19,14 +19,12 @@ static const uint8_t assembled[VEX_ROOM_BYTES] = {0, 0, 0, 0, 0, 0, 4096 / 256, 
 
 /* One library: its entries, and slices of its own, so that all can be compared after each sample. */
 struct library {
-    uint32_t (*assemble)(const uint8_t *, size_t, uint8_t *, size_t, uint8_t *, size_t); /* NULL in a build from before it, and so is list */
-    uint32_t (*list)(const uint8_t *, size_t, const uint8_t *, size_t, uint8_t *, size_t, uint8_t *, size_t);
+    uint32_t (*assemble)(const uint8_t *, size_t, uint8_t *, size_t, uint8_t *, size_t); /* NULL in a build from before it */
     uint32_t (*load)(const uint8_t *, size_t, const uint8_t *, size_t, uint8_t *, size_t);
     uint32_t (*check)(const uint8_t *, size_t, const uint8_t *, size_t, uint8_t *, size_t);
     uint32_t (*run)(const uint8_t *, size_t, const uint8_t *, size_t, uint8_t *, size_t, uint8_t *, size_t, const uint8_t *, size_t, uint32_t,
                     uint8_t *, size_t);
     uint8_t program[VEX_PROGRAM_BYTES_MAX], state[VEX_STATE_BYTES], memory[MEMORY], room[VEX_ROOM_BYTES]; /* program: what is assembled */
-    uint8_t listing[VEX_LISTING_BYTES_MAX];
     size_t state_len; /* the image that it takes: one from before the link register has none */
 };
 
@@ -43,7 +41,7 @@ struct times {
 
 struct measure {
     const char *name;
-    enum { LOAD, CHECK, RUN, LIST, ASSEMBLE } entry;
+    enum { LOAD, CHECK, RUN, ASSEMBLE } entry;
     const struct kernel *kernel; /* or the text, of assemble */
     const struct text *text;
     uint32_t n;      /* instructions a call */
@@ -80,7 +78,6 @@ static void open_library(struct library *l, const char *path, int which) {
     entry(handle, "vex_check", &l->check);
     entry(handle, "vex_run", &l->run);
     if (!find(handle, "vex_assemble", &l->assemble) && which != OLD) fail(path, "it has no vex_assemble");
-    if (!find(handle, "vex_list", &l->list) && which != OLD) fail(path, "it has no vex_list");
     l->state_len = takes(l, VEX_STATE_BYTES) ? VEX_STATE_BYTES : VEX_STATE_LINK;
     if (!takes(l, l->state_len)) fail(path, "it takes neither an image with the link register nor one without");
 }
@@ -88,7 +85,6 @@ static void open_library(struct library *l, const char *path, int which) {
 /* Whether it can do what is timed. */
 static int knows(const struct library *l, const struct measure *m) {
     if (m->entry == ASSEMBLE) return l->assemble != NULL;
-    if (m->entry == LIST) return l->list != NULL;
     return !m->links || l->state_len == VEX_STATE_BYTES;
 }
 
@@ -97,8 +93,6 @@ static uint32_t call(struct library *l, const struct measure *m) {
     if (m->entry == ASSEMBLE)
         return l->assemble((const uint8_t *)m->text->bytes, m->text->len, l->program, sizeof l->program, l->room, sizeof l->room);
     if (m->entry == LOAD) return l->load(k->table, k->table_len, k->program, k->program_len, l->room, sizeof l->room);
-    if (m->entry == LIST)
-        return l->list(k->table, k->table_len, k->program, k->program_len, l->listing, sizeof l->listing, l->room, sizeof l->room);
     if (m->entry == CHECK) return l->check(k->table, k->table_len, k->program, k->program_len, l->room, sizeof l->room);
     return l->run(k->table, k->table_len, k->program, k->program_len, l->state, l->state_len, l->memory, sizeof l->memory, NULL, 0, m->n,
                   l->room, sizeof l->room);
@@ -108,7 +102,6 @@ static uint32_t call(struct library *l, const struct measure *m) {
 static double sample(struct library *l, const struct measure *m, unsigned long calls) {
     struct timespec from, to;
     memset(l->program, 0, sizeof l->program);
-    memset(l->listing, 0, sizeof l->listing);
     memset(l->state, 0, sizeof l->state);
     memset(l->memory, 0, sizeof l->memory);
     clock_gettime(CLOCK_PROCESS_CPUTIME_ID, &from);
@@ -122,8 +115,7 @@ static double sample(struct library *l, const struct measure *m, unsigned long c
 /* The link register, where one library has none, is 0 with the other one too. */
 static int same(const struct library *a, const struct library *b) {
     return memcmp(a->room, b->room, VEX_ROOM_BYTES) == 0 && memcmp(a->state, b->state, VEX_STATE_BYTES) == 0 &&
-           memcmp(a->memory, b->memory, MEMORY) == 0 && memcmp(a->program, b->program, VEX_PROGRAM_BYTES_MAX) == 0 &&
-           memcmp(a->listing, b->listing, VEX_LISTING_BYTES_MAX) == 0;
+           memcmp(a->memory, b->memory, MEMORY) == 0 && memcmp(a->program, b->program, VEX_PROGRAM_BYTES_MAX) == 0;
 }
 
 /* One pass: samples by turns, of which the least count. */
@@ -170,15 +162,12 @@ int main(int argc, char **argv) {
     if (builds[PROVED].positions == 0 || (count > OLD && builds[OLD].positions == 0)) fail("usage", "a build without a library");
 
     const struct kernel *narrow = narrow_kernel(), *wide = wide_kernel(), *full = full_kernel(), *adds = adds_kernel(), *calls = calls_kernel();
-    const struct kernel *listed = listed_kernel();
     const struct text *labels = labels_text(), *comments = comments_text();
     const struct measure measures[] = {
         {"assemble, 4,096 operations", ASSEMBLE, NULL, labels, 0, 1e-6, "us", 0},
         {"assemble comments, 400 KB more", ASSEMBLE, NULL, comments, 0, 1e-6, "us", 0},
         {"load of 4,096 syllables", LOAD, full, NULL, 0, 1e-6, "us", 0},
         {"check of 4,096 syllables", CHECK, full, NULL, 0, 1e-6, "us", 0},
-        {"load of what is listed", LOAD, listed, NULL, 0, 1e-6, "us", 0},
-        {"list, 4,096 syllables", LIST, listed, NULL, 0, 1e-6, "us", 0},
         {"run narrow, one instruction", RUN, narrow, NULL, 10000, 10000 * 1e-9, "ns", 0},
         {"run wide, one instruction", RUN, wide, NULL, 10000, 10000 * 1e-9, "ns", 0},
         {"run adds, one instruction", RUN, adds, NULL, 10000, 10000 * 1e-9, "ns", 0},
@@ -192,7 +181,7 @@ int main(int argc, char **argv) {
     for (int pass = 0; pass < PASSES; pass++)
         for (int i = 0; i < MEASURES; i++) measure(builds, timed[i], &measures[i], &times[i]);
 
-    const struct times *add = NULL, *bare = NULL, *loaded = NULL; /* of an add, of the text without comments, of loading what is listed */
+    const struct times *add = NULL, *bare = NULL; /* those of an add, and of the text without comments */
     printf("%-30s %12s %12s %8s", "", "proved", "second", "ratio");
     if (count > OLD) printf(" %12s %8s %8s", "old", "old/new", "linked");
     printf("\n");
@@ -207,11 +196,6 @@ int main(int argc, char **argv) {
         if (m->kernel == adds) add = t;
         if (m->kernel == calls)
             printf("%-30s %12.2f %12.2f\n", "  calls by adds", proved / mean(add, builds, PROVED), second / mean(add, builds, SECOND));
-        if (m->kernel == listed && m->entry == LOAD) loaded = t;
-        if (m->kernel == listed && m->entry == LIST)
-            printf("%-30s %9.2f ms %9.2f ms %8.2f\n", "  list less load", 1e3 * (proved - mean(loaded, builds, PROVED)),
-                   1e3 * (second - mean(loaded, builds, SECOND)),
-                   (second - mean(loaded, builds, SECOND)) / (proved - mean(loaded, builds, PROVED)));
         if (m->text == labels) bare = t;
         if (m->text == comments) {
             double more_proved = proved - mean(bare, builds, PROVED), more_second = second - mean(bare, builds, SECOND);
@@ -222,7 +206,6 @@ int main(int argc, char **argv) {
     printf("A proved library's time is the mean of %d positions in memory.\n", builds[PROVED].positions - 1);
     printf("ratio: second's time by proved's; above 1 the proved library is the faster one. Only ratios of one run compare.\n");
     printf("comments add: what 400 KB of comment lines add to a call of assemble, and what share of its time that is, of each library.\n");
-    printf("list less load: what a listing takes beyond a load of the same program.\n");
     printf("calls by adds: the time of a call or a return by that of an add, of each library.\n");
     if (count > OLD) {
         printf("old/new: the earlier build's time by proved's; above 1 the proved library has become faster.\n");

@@ -7,8 +7,8 @@
 static const uint8_t one_cluster[] = {1, 4, 4, 2, 1, 0, 1, 2, 2, 3, 1};
 static const uint8_t two_clusters[] = {2, 4, 4, 2, 1, 1, 4, 4, 2, 1, 1, 1, 2, 2, 3, 1};
 
-enum { ADD = 1, SUB = 2, AND = 3, OR = 5, XOR = 7, SHL = 8, SH2ADD = 12, MAXU = 16, ADDCG = 23, MPYLL = 24, MPYLHU = 27, MPYHH = 28, CMPEQ = 30 };
-enum { CMPLT_B = 42, LDW = 52, LDBU = 56, STW = 57, STB = 59, COPY = 60, GOTO = 61, BR = 62, BRF = 63 };
+enum { ADD = 1, SUB = 2, AND = 3, OR = 5, XOR = 7, SHL = 8, SH2ADD = 12, MAXU = 16, MPYLL = 24, MPYLHU = 27, MPYHH = 28, CMPEQ = 30 };
+enum { CMPLT_B = 42, LDW = 52, LDBU = 56, STW = 57, STB = 59, COPY = 60, GOTO = 61, BR = 62 };
 
 /* Marks of a syllable: it starts a cluster, it ends an instruction. */
 #define START (1u << 30)
@@ -72,18 +72,6 @@ const struct kernel *full_kernel(void) {
     }
     static const uint32_t last[] = {START | OP(ADD, 61, 61, IMMEDIATE(1)), OP(XOR, 62, 60, 61), OP(OR, 63, 60, 61), END | JUMP(GOTO, 0, 0)};
     append(&k, last, 4);
-    return &k;
-}
-
-enum { LISTED = 2048 }; /* instructions */
-
-const struct kernel *listed_kernel(void) {
-    static struct kernel k = {one_cluster, sizeof one_cluster, {0}, 0};
-    for (uint32_t i = 0; i < LISTED; i++) {
-        uint32_t target = 2 * ((467 * i + 512) % LISTED); /* each once: 467 is odd */
-        const uint32_t words[] = {START | OP(ADDCG, 63, 63, 0xFFF), END | (i + 1 < LISTED ? JUMP(BRF, 7, target) : JUMP(GOTO, 0, target))};
-        append(&k, words, 2);
-    }
     return &k;
 }
 

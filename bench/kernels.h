@@ -21,10 +21,6 @@ const struct kernel *wide_kernel(void);
 /* One cluster, 4,096 syllables, four an instruction, with a product and a load in each. */
 const struct kernel *full_kernel(void);
 
-/* One cluster, 4,096 syllables, two an instruction: an addcg with the longest names and a branch, so that each instruction has a label; 173 KB when
- * it is listed. */
-const struct kernel *listed_kernel(void);
-
 /* One cluster, one syllable an instruction: a loop of calls, each with its return; and the same loop with an add for each of them. */
 const struct kernel *calls_kernel(void);
 const struct kernel *adds_kernel(void);

@@ -1,11 +1,9 @@
-/* The preview sandbox for C and C++: five calls that assemble, load, check, run and list an effect. docs/MACHINE.md has the machine and the
- * encoding, docs/NOTATION.md the text that is assembled and listed; vex_words.h and vex_text_words.h have words for the numbers and the causes
- * behind them.
+/* The preview sandbox for C and C++: four calls that assemble, load, check and run an effect. docs/MACHINE.md has the machine and the encoding,
+ * docs/NOTATION.md the text that is assembled; vex_words.h and vex_text_words.h have words for the numbers and the causes behind them.
  *
- * Slices. A slice is a pointer and a length in bytes. The pointer stands for that many bytes, readable, and writable for state, memory, room, the
- * program that is assembled and the text of a listing. No two slices of one call overlap. Alignment is free. A pointer may be null where its
- * length is 0. The proofs begin at the slices: alignment and null pointers are tried by the example host's self-test, with every slice, and no proof
- * covers them.
+ * Slices. A slice is a pointer and a length in bytes. The pointer stands for that many bytes, readable, and writable for state, memory, room and
+ * the program that is assembled. No two slices of one call overlap. Alignment is free. A pointer may be null where its length is 0. The proofs begin
+ * at the slices: alignment and null pointers are tried by the example host's self-test, with every slice, and no proof covers them.
  *
  * Words. Numbers inside slices are 4 bytes, highest byte first. A place is a syllable's index: byte offset 4 * place of the program; of 18, 19 and
  * 20 it is a line of the text, from 1.
@@ -18,12 +16,12 @@
  * means to do both again: the effect's stores stay in the memory until the host clears it. To move an effect to another process is to hand over
  * state and memory.
  *
- * Cost. Load, check, run and list test table and program from the beginning: about 10 microseconds for a small effect and under a millisecond for
- * 4,096 syllables (check: some milliseconds), as measured on one x86-64 machine. An instruction takes up to about a microsecond, the widest most, so
- * n bounds the time of a call: n = 10,000 took about 1 to 10 milliseconds, and n = 0xFFFFFFFF may take more than an hour. A call cannot be broken
+ * Cost. Load, check and run test table and program from the beginning: about 10 microseconds for a small effect and under a millisecond for 4,096
+ * syllables (check: some milliseconds), as measured on one x86-64 machine. An instruction takes up to about a microsecond, the widest most, so n
+ * bounds the time of a call: n = 10,000 took about 1 to 10 milliseconds, and n = 0xFFFFFFFF may take more than an hour. A call cannot be broken
  * off; use slices. To assemble took 20 to 90 microseconds for a small effect, and 5 milliseconds for 4,096 operations with 1,000 labels in half a
  * megabyte of text. Labels beyond the first 4,096 of a text are searched for one by one: 262,144 bytes of nothing but labels took 20 seconds, so a host
- * that takes texts from anybody bounds their length. To list took as long as to load, and for 4,096 syllables under 3 milliseconds more.
+ * that takes texts from anybody bounds their length.
  *
  * Link. The archive needs memcpy and memset of the system and nothing else; no call allocates, opens a file, or uses a thread.
  */
@@ -38,7 +36,7 @@ extern "C" {
 #endif
 
 /* This interface. It goes up by one when a call, a number, a layout or a constant changes its meaning. */
-#define VEX_VERSION 4
+#define VEX_VERSION 3
 
 /* Stack that a call may use, with room to spare: VEX_ASSEMBLE_STACK_BYTES for vex_assemble, which keeps the labels of a text there, and
  * VEX_STACK_BYTES for the others. On x86-64 the most that was measured is 20,200 bytes, in run, and 100,488 in assemble. On Arm and other processors
@@ -63,11 +61,6 @@ extern "C" {
 /* The program: 1 to 4,096 syllables, each a word. Bit 31 ends an instruction, bit 30 starts a cluster. */
 #define VEX_SYLLABLE_BYTES 4
 #define VEX_PROGRAM_BYTES_MAX 16384
-
-/* The listing: so many bytes are enough for every program. They are 61 for each of 4,096 syllables, newlines counted: at most 51 for its operation
- * (four blanks and `c0 addcg $r0.63, $b0.7 = $b0.7, $r0.63, $r0.63`), 3 for `;;` and 7 for `L4095:`; so a shorter program needs at most 61 bytes a
- * syllable. And they are fewer than 262,144, so the program assemble takes every listing. */
-#define VEX_LISTING_BYTES_MAX 249856
 
 /* The memory: 0 to 65,536 bytes, address 0 first. */
 #define VEX_MEMORY_BYTES_MAX 65536
@@ -97,10 +90,10 @@ extern "C" {
 
 /* The numbers. 1 to 10 are each tested over the whole input before the next, and the lowest place is named; 11 to 14 and 17 are met as the effect
  * runs, in one instruction 11 first, then 17, then 12 and 13 syllable by syllable, then 14. 18 to 20 are assemble's, for the lowest line that has
- * one of them, and of that line the lowest number; its 2 comes after them. 21 is list's, and comes after 1 to 8. Good and paused are both 0: which
- * one it is goes by the call. 15 and 16 are never given; 16 is the text program's number for a bad line. In brackets: what the place is. */
+ * one of them, and of that line the lowest number; its 2 comes after them. Good and paused are both 0: which one it is goes by the call. 15 and 16
+ * are never given; 16 is the text program's number for a bad line. In brackets: what the place is. */
 enum {
-    VEX_GOOD = 0,            /* assemble, load, check, list: nothing is wrong [0] */
+    VEX_GOOD = 0,            /* assemble, load, check: nothing is wrong [0] */
     VEX_PAUSED = 0,          /* run: n instructions are done, and no stop was met [the one to come] */
     VEX_BAD_TABLE = 1,       /* the table breaks a limit [0] */
     VEX_BAD_LENGTH = 2,      /* a length is wrong [0 program, 1 memory, 2 state, 3 room; the first in this order]; assemble: the text has no
@@ -132,7 +125,6 @@ enum {
     VEX_BAD_LABEL = 19,      /* assemble: a line gives a label that a line above it gives, or names one that no line gives */
     VEX_BAD_VALUE = 20,      /* assemble: a number, a label or a step of an expression leaves -2^31 to 2^31 - 1, or the expression's value does
                                 not fit its field */
-    VEX_TOO_LONG = 21,       /* list: the listing does not fit the lent text [0] */
     VEX_STOPPED = 255        /* run: the effect is at a stop [the stop] */
 };
 
@@ -173,16 +165,6 @@ uint32_t vex_check(const uint8_t *table, size_t table_len, const uint8_t *progra
  *   1 to 8, 10       state and memory are as they were, and the count is 0 */
 uint32_t vex_run(const uint8_t *table, size_t table_len, const uint8_t *program, size_t program_len, uint8_t *state, size_t state_len,
                  uint8_t *memory, size_t memory_len, const uint8_t *landing, size_t landing_len, uint32_t n, uint8_t *room, size_t room_len);
-
-/* Lists: writes the program as text in the notation of docs/NOTATION.md, one spelling for each syllable. Gives 0 to 8 as vex_load, then 21. The
- * table decides whether the program loads and nothing else. vex_assemble makes the same syllables of the listing.
- *   table, program   read
- *   text             written with the listing, every line of it with its newline, and no zero behind it; VEX_LISTING_BYTES_MAX bytes are always
- *                    enough. What is behind the listing stays as it was, and all of it under every number but 0
- *   room             written with number, count and place: 0, how many bytes were written, 0; or, refused, the number, 0 and the place
- * Returns the number, also where the room cannot be written. */
-uint32_t vex_list(const uint8_t *table, size_t table_len, const uint8_t *program, size_t program_len, uint8_t *text, size_t text_len,
-                  uint8_t *room, size_t room_len);
 
 #ifdef __cplusplus
 }

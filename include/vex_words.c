@@ -23,7 +23,7 @@ const char *vex_words(struct vex_answer answer) {
         "the answer room is not 12 bytes",
     };
     switch (answer.number) {
-    case VEX_GOOD: return "good, or paused"; /* assemble, load, check and list; run */
+    case VEX_GOOD: return "good, or paused"; /* assemble, load and check; run */
     case VEX_BAD_TABLE: return "the delay table breaks a limit";
     case VEX_BAD_LENGTH: return lengths[answer.place & 3];
     case VEX_NO_END: return "the last syllable does not end its instruction";
@@ -43,7 +43,6 @@ const char *vex_words(struct vex_answer answer) {
     case VEX_BAD_TEXT: return "a line is not in the notation";
     case VEX_BAD_LABEL: return "a label is given twice, or is not given";
     case VEX_BAD_VALUE: return "a value leaves the signed 32-bit range, or does not fit its field";
-    case VEX_TOO_LONG: return "the listing does not fit the lent text";
     case VEX_STOPPED: return "stopped";
     default: return "no number of the sandbox";
     }
@@ -495,15 +494,6 @@ static void bad_link(const struct vex_given *g, uint32_t place, struct text *t) 
     say(t, "return goes to the link register's place, %lu, which starts no instruction", (unsigned long)link);
 }
 
-/* How long the listing is, list alone knows; how long it can be, its syllables say. */
-static void too_long(const struct vex_given *g, struct text *t) {
-    enum { EACH = VEX_LISTING_BYTES_MAX / PLACES };
-    size_t enough = EACH * syllables(g);
-    if (syllables(g) > PLACES || g->text_len >= enough) return;
-    say(t, "the lent text has %lu byte%s; %d for each syllable are always enough, here %lu", (unsigned long)g->text_len,
-        g->text_len == 1 ? "" : "s", EACH, (unsigned long)enough);
-}
-
 size_t vex_cause(const struct vex_given *given, struct vex_answer answer, char *cause, size_t size) {
     struct text t = {cause, size, 0};
     if (size > 0) cause[0] = '\0';
@@ -521,7 +511,6 @@ size_t vex_cause(const struct vex_given *given, struct vex_answer answer, char *
     case VEX_OUT_OF_BOUNDS: bad_access(given, answer.place, 1, &t); break;
     case VEX_STORES_CLASH: stores_clash(given, answer.place, &t); break;
     case VEX_BAD_LINK: bad_link(given, answer.place, &t); break;
-    case VEX_TOO_LONG: too_long(given, &t); break;
     default: break;
     }
     return t.length;

@@ -19,15 +19,14 @@ struct vex_answer vex_read_room(const uint8_t room[VEX_ROOM_BYTES]);
 /* The words of an answer's number; 2 has other words for each place. */
 const char *vex_words(struct vex_answer answer);
 
-/* What the call had. State and memory are run's, as the call left them, and text_len is list's: how many bytes were lent for the listing. A length
- * that the call has not is 0. */
+/* What the call had. State and memory are run's, as the call left them; for load and check state_len and memory_len are 0. */
 struct vex_given {
     const uint8_t *table, *program, *state;
-    size_t table_len, program_len, state_len, memory_len, text_len;
+    size_t table_len, program_len, state_len, memory_len;
 };
 
-/* Writes the cause of an answer of load, check, run or list as a C string, cut to size bytes; VEX_CAUSE_BYTES are enough. Returns its length: 0 if
- * the words say all (0, 2, 3, 255), or if what was given holds no cause, as when the room is of another call. Of two causes at one place it names
+/* Writes the cause of an answer of load, check or run as a C string, cut to size bytes; VEX_CAUSE_BYTES are enough. Returns its length: 0 if the
+ * words say all (0, 2, 3, 255), or if what was given holds no cause, as when the room is of another call. Of two causes at one place it names
  * one. */
 #define VEX_CAUSE_BYTES 256
 size_t vex_cause(const struct vex_given *given, struct vex_answer answer, char *cause, size_t size);

@@ -1,4 +1,4 @@
-/* A small preview host: it assembles, loads, checks and runs an effect in slices, and writes the frame as an image after each; or it lists it. */
+/* A small preview host: it assembles, loads, checks and runs an effect in slices, and writes the frame as an image after each. */
 #include <stdio.h>
 #include <stdlib.h>
 #include <string.h>
@@ -80,15 +80,13 @@ static int step(const struct options *o, struct machine *m) {
     return REFUSED;
 }
 
-/* The effect's program: a file named *.s is a text and is assembled, any other holds the syllables. Of one that is listed nothing is said but what is
- * refused, so that the listing can be kept as a text. */
-static int read_effect(const struct options *o, struct machine *m) {
-    const char *name = o->effect;
+/* The effect's program: a file named *.s is a text and is assembled, any other holds the syllables. */
+static int read_effect(const char *name, struct machine *m) {
     struct bytes file = read_file(name);
     size_t length = strlen(name);
     uint8_t room[VEX_ROOM_BYTES];
     m->name = name;
-    if (!o->list) printf("%s: %lu bytes\n", name, (unsigned long)file.length);
+    printf("%s: %lu bytes\n", name, (unsigned long)file.length);
     if (length < 2 || strcmp(name + length - 2, ".s") != 0) {
         m->program = file;
         return DONE;
@@ -100,7 +98,7 @@ static int read_effect(const struct options *o, struct machine *m) {
         return REFUSED;
     }
     m->program.length = VEX_SYLLABLE_BYTES * (size_t)vex_read_room(room).count;
-    if (!o->list) printf("assemble: %lu syllables\n", (unsigned long)vex_read_room(room).count);
+    printf("assemble: %lu syllables\n", (unsigned long)vex_read_room(room).count);
     return DONE;
 }
 
@@ -112,8 +110,7 @@ int main(int argc, char **argv) {
     m.landing = read_landing(o.landing);
     uint8_t room[VEX_ROOM_BYTES];
 
-    if (read_effect(&o, &m) != DONE) return REFUSED;
-    if (o.list) return say_listing(&m);
+    if (read_effect(o.effect, &m) != DONE) return REFUSED;
     if (vex_load(m.table.at, m.table.length, m.program.at, m.program.length, room, sizeof room) != VEX_GOOD) {
         say_refusal("load", vex_read_room(room), &m);
         return REFUSED;

@@ -18,7 +18,7 @@ struct options {
     const char *effect, *table, *landing, *out;
     unsigned long memory, slices, instructions; /* instructions: 0 for a frame's */
     unsigned long width, height, address;
-    int trace, registers, step, list, self_test;
+    int trace, registers, step, self_test;
 };
 
 /* A landing list; a seeded one is made anew for each slice. */
@@ -52,13 +52,8 @@ struct vex_answer run_machine(struct machine *m, uint32_t n);
 struct vex_answer trace_one(struct machine *m);
 unsigned long frame_length(const struct machine *m, unsigned long limit);
 
-/* listing.c: prints the program as text, or says why it is refused; prints the operations from a place to the end of its instruction, each with its
- * own place, and returns 0 where no table takes the program, so that it has no listing. */
-int say_listing(const struct machine *m);
-int say_listed(const struct machine *m, uint32_t place);
-
-/* show.c: prints a refusal or a fault in words, its cause and the instructions that it names; what assemble refuses; the registers that are not zero,
- * the link register among them. */
+/* show.c: prints a refusal or a fault in words, its cause and the instructions that it names, of a text the line too; what assemble refuses; the
+ * registers that are not zero, the link register among them. */
 void say_refusal(const char *entry, struct vex_answer answer, const struct machine *m);
 void say_text_refusal(struct vex_answer answer, const struct machine *m);
 void say_registers(const struct machine *m);

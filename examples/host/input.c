@@ -28,9 +28,8 @@ static const char usage[] =
     "                         and the link register where a call sets it\n"
     "  --registers            prints after each slice the registers that are not all zero, the link register last\n"
     "  --step                 runs from standard input: an empty line is one instruction\n"
-    "  --list                 prints the effect as text, one operation a line, and runs nothing\n"
     "  --help                 prints this\n"
-    "Exit status: 0 the slices were run, the effect stopped or was listed; 1 a refusal, a fault or a failed self-test;\n"
+    "Exit status: 0 the slices were run, or the effect stopped; 1 a refusal, a fault or a failed self-test;\n"
     "2 bad usage; 3 a file or memory could not be had.\n";
 
 void fail(int status, const char *name, const char *why) {
@@ -93,9 +92,9 @@ static void read_option(struct options *o, const char *option, const char *value
 
 /* The options that have no value. */
 static int read_flag(struct options *o, const char *option) {
-    int *const flags[] = {&o->trace, &o->registers, &o->step, &o->list, &o->self_test};
-    static const char *const names[] = {"--trace", "--registers", "--step", "--list", "--self-test"};
-    for (size_t i = 0; i < sizeof names / sizeof names[0]; i++)
+    int *const flags[] = {&o->trace, &o->registers, &o->step, &o->self_test};
+    static const char *const names[] = {"--trace", "--registers", "--step", "--self-test"};
+    for (int i = 0; i < 4; i++)
         if (strcmp(option, names[i]) == 0) return *flags[i] = 1;
     return 0;
 }

@@ -6,8 +6,7 @@
 #include "host.h"
 
 struct vex_given given_of(const struct machine *m) {
-    struct vex_given g = {m->table.at,       m->program.at,   m->state.at,      m->table.length,
-                          m->program.length, m->state.length, m->memory.length, VEX_LISTING_BYTES_MAX};
+    struct vex_given g = {m->table.at, m->program.at, m->state.at, m->table.length, m->program.length, m->state.length, m->memory.length};
     return g;
 }
 

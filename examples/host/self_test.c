@@ -2,7 +2,95 @@
 #include <stdio.h>
 #include <string.h>
 
-#include "self_test.h"
+#include "host.h"
+
+enum { GUARD = 0xA5, MARGIN = 64, ALIGNMENTS = 8, ARENA = MARGIN + ALIGNMENTS + VEX_MEMORY_BYTES_MAX + 1 + MARGIN };
+enum entry { LOAD, CHECK, RUN, ASSEMBLE };
+enum slice { TEXT, TABLE, PROGRAM, STATE, MEMORY, LANDING, ROOM, SLICES };
+
+struct call {
+    struct bytes given[SLICES];
+    uint32_t n;
+};
+
+static uint8_t arena[SLICES][ARENA];
+static uint8_t *now[SLICES]; /* where the slices of the last call stand */
+static int calls, failures;
+
+static void expect(int holds, const char *what, const char *name) {
+    if (holds) return;
+    failures++;
+    printf("self-test: %s: %s\n", name, what);
+}
+
+/* The answer of the last call. */
+static int answered(uint32_t number, uint32_t count, uint32_t place) {
+    return vex_word(now[ROOM] + VEX_ROOM_NUMBER) == number && vex_word(now[ROOM] + VEX_ROOM_COUNT) == count &&
+           vex_word(now[ROOM] + VEX_ROOM_PLACE) == place;
+}
+
+static int as_given(const struct call *c, enum slice s) {
+    return c->given[s].length == 0 || memcmp(now[s], c->given[s].at, c->given[s].length) == 0;
+}
+
+static int guarded(const struct call *c, enum slice s) {
+    size_t first = (size_t)(now[s] - arena[s]);
+    for (size_t i = 0; i < ARENA; i++)
+        if ((i < first || i >= first + c->given[s].length) && arena[s][i] != GUARD) return 0;
+    return 1;
+}
+
+/* Copies the slices between guard bytes, off alignment by shift, calls, and checks what holds after any call. */
+static uint32_t perform(enum entry entry, const struct call *c, size_t shift, const char *name) {
+    uint8_t *at[SLICES];
+    const struct bytes *g = c->given;
+    uint32_t number;
+    memset(arena, GUARD, sizeof arena);
+    for (int s = 0; s < SLICES; s++) {
+        now[s] = arena[s] + MARGIN + (shift + (size_t)s) % ALIGNMENTS;
+        if (g[s].length > 0) memcpy(now[s], g[s].at, g[s].length);
+        at[s] = g[s].at == NULL ? NULL : now[s];
+    }
+    calls++;
+    if (entry == ASSEMBLE)
+        number = vex_assemble(at[TEXT], g[TEXT].length, at[PROGRAM], g[PROGRAM].length, at[ROOM], g[ROOM].length);
+    else if (entry == RUN)
+        number = vex_run(at[TABLE], g[TABLE].length, at[PROGRAM], g[PROGRAM].length, at[STATE], g[STATE].length, at[MEMORY],
+                         g[MEMORY].length, at[LANDING], g[LANDING].length, c->n, at[ROOM], g[ROOM].length);
+    else
+        number = (entry == LOAD ? vex_load : vex_check)(at[TABLE], g[TABLE].length, at[PROGRAM], g[PROGRAM].length, at[ROOM],
+                                                        g[ROOM].length);
+    for (int s = 0; s < SLICES; s++) expect(guarded(c, s), "a guard byte was written", name);
+    expect(as_given(c, TEXT) && as_given(c, TABLE) && as_given(c, LANDING), "a slice that is only read was written", name);
+    expect((entry == ASSEMBLE && number == VEX_GOOD) || as_given(c, PROGRAM), "the program was written", name);
+    int executes = entry == RUN && (number == VEX_PAUSED || number >= VEX_IN_FLIGHT);
+    expect(executes || (as_given(c, STATE) && as_given(c, MEMORY)), "state or memory was written", name);
+    if (g[ROOM].length == VEX_ROOM_BYTES)
+        expect(vex_word(now[ROOM]) == number, "the room has another number", name);
+    else
+        expect(as_given(c, ROOM), "a room of another length was written", name);
+    return number;
+}
+
+static uint8_t one_cluster[] = {1, 4, 4, 2, 1, 0, 1, 2, 2, 3, 1};
+static uint8_t two_clusters[] = {2, 4, 4, 2, 1, 1, 4, 4, 2, 1, 1, 1, 2, 2, 3, 1};
+static uint8_t state[VEX_STATE_BYTES + 1], memory[VEX_MEMORY_BYTES_MAX + 1], program[VEX_PROGRAM_BYTES_MAX], room[2 * VEX_ROOM_BYTES];
+
+/* A call of a program with the first table, 64 bytes of memory, and a state of zeros. */
+static struct call call_of(const uint32_t *words, size_t count, uint32_t n) {
+    struct call c = {.n = n};
+    for (size_t i = 0; i < 4 * count; i++) program[i] = (uint8_t)(words[i / 4] >> (24 - 8 * (i % 4)));
+    memset(state, 0, sizeof state);
+    for (size_t i = 0; i < sizeof memory; i++) memory[i] = (uint8_t)(i * 7 + 1);
+    memset(room, 0x5A, sizeof room);
+    c.given[TABLE] = (struct bytes){one_cluster, sizeof one_cluster};
+    c.given[PROGRAM] = (struct bytes){program, 4 * count};
+    c.given[STATE] = (struct bytes){state, VEX_STATE_BYTES};
+    c.given[MEMORY] = (struct bytes){memory, 64};
+    c.given[LANDING] = (struct bytes){NULL, 0};
+    c.given[ROOM] = (struct bytes){room, VEX_ROOM_BYTES};
+    return c;
+}
 
 /* Programs with the answers of load, check and run: number, count, place. Two clusters only where a case needs them. */
 static const struct {
@@ -32,21 +120,16 @@ static const struct {
 
 static void test_cases(void) {
     for (size_t i = 0; i < sizeof cases / sizeof cases[0]; i++) {
-        struct call c = call_of(cases[i].words, cases[i].count, cases[i].clusters, 16);
-        for (size_t shift = 0; shift < ALIGNMENTS; shift++) {
-            const uint32_t *a;
+        struct call c = call_of(cases[i].words, cases[i].count, 16);
+        if (cases[i].clusters == 2) c.given[TABLE] = (struct bytes){two_clusters, sizeof two_clusters};
+        for (size_t shift = 0; shift < ALIGNMENTS; shift++)
             for (int entry = LOAD; entry <= RUN; entry++) {
-                a = cases[i].answers[entry];
+                const uint32_t *a = cases[i].answers[entry];
                 perform(entry, &c, shift, cases[i].name);
                 expect(answered(a[0], a[1], a[2]), "another answer", cases[i].name);
             }
-            /* list refuses what load refuses; what it does not, fits no text of no byte */
-            a = cases[i].answers[LOAD];
-            perform(LIST, &c, shift, cases[i].name);
-            expect(a[0] == VEX_GOOD ? answered(VEX_TOO_LONG, 0, 0) : answered(a[0], a[1], a[2]), "another answer", cases[i].name);
-        }
     }
-    printf("self-test: %d programs at %d alignments, load, check, run and list\n", (int)(sizeof cases / sizeof cases[0]), ALIGNMENTS);
+    printf("self-test: %d programs at %d alignments, load, check and run\n", (int)(sizeof cases / sizeof cases[0]), ALIGNMENTS);
 }
 
 /* Each slice with a length it may not have: the number, and where the room can be written its place. */
@@ -63,21 +146,21 @@ static void test_lengths(void) {
     for (size_t i = 0; i < sizeof wrong / sizeof wrong[0]; i++)
         for (size_t shift = 0; shift < ALIGNMENTS; shift++)
             for (int null = 0; null <= (wrong[i].length == 0); null++) {
-                struct call c = call_of(cases[0].words, cases[0].count, 1, 16);
+                struct call c = call_of(cases[0].words, cases[0].count, 16);
                 c.given[wrong[i].slice].length = wrong[i].length;
                 if (null) c.given[wrong[i].slice].at = NULL;
-                for (int entry = LOAD; entry <= LIST; entry++) {
+                for (int entry = LOAD; entry <= RUN; entry++) {
                     int taken = entry == RUN || (wrong[i].slice != STATE && wrong[i].slice != MEMORY);
-                    uint32_t number = perform(entry, &c, shift, "a wrong length"), otherwise = entry == LIST ? VEX_TOO_LONG : VEX_GOOD;
-                    expect(number == (taken ? wrong[i].number : otherwise), "another number", "a wrong length");
+                    uint32_t number = perform(entry, &c, shift, "a wrong length");
+                    expect(number == (taken ? wrong[i].number : 0), "another number", "a wrong length");
                     if (wrong[i].slice != ROOM && taken) expect(answered(number, 0, wrong[i].place), "another place", "a wrong length");
                 }
             }
     /* A bad table is told before a bad room, and still nothing is written. */
-    struct call c = call_of(cases[0].words, cases[0].count, 1, 16);
+    struct call c = call_of(cases[0].words, cases[0].count, 16);
     c.given[TABLE].length = 10;
     c.given[ROOM].length = 11;
-    for (int entry = LOAD; entry <= LIST; entry++) expect(perform(entry, &c, 0, "table and room") == 1, "another number", "table and room");
+    for (int entry = LOAD; entry <= RUN; entry++) expect(perform(entry, &c, 0, "table and room") == 1, "another number", "table and room");
     printf("self-test: wrong lengths, a null pointer with length 0, rooms of 0, 11, 13 and 24 bytes\n");
 }
 
@@ -85,7 +168,7 @@ static void test_nothing(void) {
     uint8_t after[VEX_STATE_BYTES] = {0}; /* the example's state: place 1, register 3 is 5 */
     after[VEX_STATE_PLACE + 3] = 1;
     after[VEX_STATE_GENERAL(0, 3) + VEX_REGISTER_VALUE + 3] = 5;
-    struct call c = call_of(cases[0].words, cases[0].count, 1, 16);
+    struct call c = call_of(cases[0].words, cases[0].count, 16);
     for (int null = 0; null <= 1; null++) {
         c.given[MEMORY] = (struct bytes){null ? NULL : memory, 0};
         c.given[LANDING] = c.given[MEMORY];
@@ -116,7 +199,7 @@ static void test_image(void) {
     static const uint32_t words[] = {0xD8042802, 0xC0040000}; /* mpyll r1 = r2 * 2; stop */
     size_t product = VEX_STATE_GENERAL(0, 1), branch = VEX_STATE_BRANCH(2, 5);
     for (uint8_t byte = 0; byte <= 1; byte++) {
-        struct call c = call_of(words, 2, 1, 1);
+        struct call c = call_of(words, 2, 1);
         c.given[LANDING] = (struct bytes){&byte, 1};
         state[VEX_STATE_GENERAL(0, 2) + VEX_REGISTER_VALUE + 3] = 3;
         state[branch + VEX_REGISTER_WAITING + 3] = 1;
@@ -146,7 +229,7 @@ static int linked(const struct call *c, uint8_t place, uint8_t link) {
 /* A call and its return, one instruction a slice; then returns to places that start no instruction. */
 static void test_link(void) {
     static const uint32_t words[] = {0xC0080003, 0x40000000, 0x80000000, 0xC00C0000}; /* call 3; two nops; return */
-    struct call c = call_of(words, 4, 1, 1);
+    struct call c = call_of(words, 4, 1);
     perform(RUN, &c, 2, "a call");
     expect(answered(0, 1, 3) && linked(&c, 3, 1), "another answer or state", "a call");
     go_on();
@@ -155,7 +238,7 @@ static void test_link(void) {
 
     static const uint8_t links[] = {2, 4, 255};
     for (size_t i = 0; i < sizeof links; i++) {
-        c = call_of(words, 4, 1, 16);
+        c = call_of(words, 4, 16);
         state[VEX_STATE_PLACE + 3] = 1;
         state[VEX_STATE_LINK + 3] = links[i];
         perform(RUN, &c, i, "a bad link");
@@ -168,7 +251,7 @@ static void test_link(void) {
 }
 
 static void test_states(void) {
-    struct call c = call_of(cases[10].words, cases[10].count, 1, 16);
+    struct call c = call_of(cases[10].words, cases[10].count, 16);
     perform(RUN, &c, 5, "a fault");
     go_on();
     perform(RUN, &c, 5, "a fault again");
@@ -177,7 +260,7 @@ static void test_states(void) {
     static const size_t wrong[] = {VEX_STATE_PLACE, VEX_STATE_GENERAL(3, 0), VEX_STATE_BRANCH(0, 0) + VEX_REGISTER_VALUE,
                                    VEX_STATE_GENERAL(1, 9) + VEX_REGISTER_WAITING, VEX_STATE_BRANCH(3, 7) + VEX_REGISTER_LANDING};
     for (size_t i = 0; i < sizeof wrong / sizeof wrong[0]; i++) {
-        c = call_of(cases[0].words, cases[0].count, 1, 16);
+        c = call_of(cases[0].words, cases[0].count, 16);
         state[wrong[i]] = 1;
         perform(RUN, &c, i, "a state that is not valid");
         expect(answered(10, 0, 0), "another answer", "a state that is not valid");
@@ -185,8 +268,101 @@ static void test_states(void) {
     printf("self-test: a fault stands, states that are not valid\n");
 }
 
+/* A call of assemble: a text, and a program of so many bytes to write to. */
+static struct call assemble_of(const char *text, size_t length, size_t lent) {
+    struct call c = {.n = 0};
+    memset(program, 0x5A, sizeof program);
+    memset(room, 0x5A, sizeof room);
+    c.given[TEXT] = (struct bytes){(uint8_t *)text, length};
+    c.given[PROGRAM] = (struct bytes){program, lent};
+    c.given[ROOM] = (struct bytes){room, VEX_ROOM_BYTES};
+    return c;
+}
+
+/* Whether these syllables were written, and nothing behind them. */
+static int wrote(const struct call *c, const uint32_t *words, size_t count) {
+    for (size_t i = 0; i < count; i++)
+        if (vex_word(now[PROGRAM] + 4 * i) != words[i]) return 0;
+    return memcmp(now[PROGRAM] + 4 * count, c->given[PROGRAM].at + 4 * count, c->given[PROGRAM].length - 4 * count) == 0;
+}
+
+/* Texts with their answers, and where it is 0 their syllables; each with a program of exactly as many bytes, with more, and with fewer. */
+static const struct {
+    const char *name, *text;
+    uint32_t answer[3];
+    uint32_t words[6];
+} texts[] = {
+    {"the document's example", "c0 add $r0.3 = $r0.0, 5 ;;\nc0 stop\n", {0, 2, 0}, {0xC10C0805, 0xC0040000}},
+    {"labels both ways", "a:\tc0 goto b+0*a ;; # there\r\nb:\tc0 br $b0.1, a ;;\n", {0, 2, 0}, {0xFD000001, 0xFE200000}},
+    {"idle clusters", "c1 nop\nc3 mpyll $r3.1 = $r3.2, 0-1\n;;", {0, 4, 0}, {0x40000000, 0x40000000, 0x40000000, 0xD8042FFF}},
+    {"sixteen brackets", "c0 goto ((((((((((((((((1-1))))))))))))))))", {0, 1, 0}, {0xFD000000}},
+    {"seventeen brackets", "c0 goto (((((((((((((((((1-1)))))))))))))))))", {18, 0, 1}, {0}},
+    {"an unknown operation", "c0 nop ;;\n\nc0 noop ;;\n", {18, 0, 3}, {0}},
+    {"a label that is missing", "c0 nop ;;\nc0 goto a ;;\n", {19, 0, 2}, {0}},
+    {"a label given twice", "a:\na: c0 nop ;;\n", {19, 0, 2}, {0}},
+    {"a large immediate", "c0 nop ;;\nc0 add $r0.1 = $r0.1, 1024 ;;\n", {20, 0, 2}, {0}},
+    {"a large number", "c0 goto 99999999999999999999 ;;\n", {20, 0, 1}, {0}},
+    {"no operation", "a:\n# c0 nop ;;\n", {2, 0, 0}, {0}},
+};
+
+static void test_texts(void) {
+    for (size_t i = 0; i < sizeof texts / sizeof texts[0]; i++) {
+        const uint32_t *a = texts[i].answer;
+        size_t bytes = 4 * (size_t)a[1];
+        for (size_t shift = 0; shift < ALIGNMENTS; shift++)
+            for (size_t lent = 0; lent <= bytes + 5; lent++) {
+                struct call c = assemble_of(texts[i].text, strlen(texts[i].text), lent);
+                perform(ASSEMBLE, &c, shift, texts[i].name);
+                if (lent < bytes) expect(answered(2, 0, 0), "another answer for a short program", texts[i].name);
+                else expect(answered(a[0], a[1], a[2]) && (a[0] != 0 || wrote(&c, texts[i].words, a[1])), "another answer", texts[i].name);
+            }
+    }
+    printf("self-test: %d texts at %d alignments, programs of every length up to theirs and beyond\n", (int)(sizeof texts / sizeof texts[0]),
+           ALIGNMENTS);
+}
+
+/* The longest program and one more syllable; every byte as a text; no byte at all; rooms of another length, which come last. */
+static void test_assemble(void) {
+    static char nops[9 * 4097 + 1];
+    static uint32_t words[4096];
+    static const char good[] = "c0 stop", bad[] = "c0 stop c0";
+    static const size_t rooms[] = {0, 11, 13, 24};
+    for (size_t i = 0; i < 4097; i++) memcpy(nops + 9 * i, "c0 nop;;\n", 10);
+    for (size_t i = 0; i < 4096; i++) words[i] = 0xC0000000;
+    for (uint32_t count = 4095; count <= 4097; count++) {
+        struct call c = assemble_of(nops, 9 * (size_t)count, VEX_PROGRAM_BYTES_MAX);
+        perform(ASSEMBLE, &c, count % ALIGNMENTS, "nops");
+        expect(count <= 4096 ? answered(0, count, 0) && wrote(&c, words, count) : answered(2, 0, 0), "another answer", "nops");
+    }
+    for (int byte = 0; byte < 256; byte++) {
+        char text = (char)byte;
+        struct call c = assemble_of(&text, 1, VEX_PROGRAM_BYTES_MAX);
+        int blank = byte == ' ' || byte == '\t' || byte == '\r' || byte == '\n' || byte == '#';
+        perform(ASSEMBLE, &c, (size_t)byte % ALIGNMENTS, "a byte");
+        expect(blank ? answered(2, 0, 0) : answered(18, 0, 1), "another answer", "a byte");
+    }
+    for (int null = 0; null <= 1; null++) {
+        struct call c = assemble_of(null ? NULL : good, 0, VEX_PROGRAM_BYTES_MAX);
+        perform(ASSEMBLE, &c, 1, "no text");
+        expect(answered(2, 0, 0), "another answer", "no text");
+        c = assemble_of(good, strlen(good), 0);
+        if (null) c.given[PROGRAM].at = NULL;
+        perform(ASSEMBLE, &c, 1, "no program");
+        expect(answered(2, 0, 0), "another answer", "no program");
+        for (size_t i = 0; i < sizeof rooms / sizeof rooms[0]; i++) {
+            c = assemble_of(good, strlen(good), VEX_PROGRAM_BYTES_MAX);
+            c.given[ROOM] = (struct bytes){null && rooms[i] == 0 ? NULL : room, rooms[i]};
+            expect(perform(ASSEMBLE, &c, i, "another room") == 2, "another number", "another room");
+            c.given[TEXT] = (struct bytes){(uint8_t *)bad, strlen(bad)};
+            expect(perform(ASSEMBLE, &c, i, "text and room") == 18, "another number", "text and room");
+        }
+    }
+    printf("self-test: 4,096 syllables and one more, every byte as a text, no text, no program, rooms of 0, 11, 13 and 24 bytes\n");
+}
+
 int self_test(void) {
-    test_text();
+    test_texts();
+    test_assemble();
     test_cases();
     test_lengths();
     test_nothing();

@@ -23,53 +23,32 @@ static void say_line(const struct machine *m, size_t line) {
     printf("\n");
 }
 
-/* The lines that the syllables from a place to the end of its instruction come from. */
-static void say_lines(const struct machine *m, uint32_t place) {
-    struct vex_text text = text_of(m);
-    size_t said = 0;
-    for (size_t at = 4 * (size_t)place; at + 4 <= m->program.length; at += 4) {
-        size_t line = vex_text_line(&text, (uint32_t)(at / 4));
-        if (line != said) { /* a nop of an idle cluster has none of its own */
-            printf("    ");
-            say_line(m, line);
-        }
-        said = line;
-        if (m->program.at[at] >> 7) break;
-    }
-}
-
-static void say_syllables(const struct machine *m, uint32_t place) {
-    printf("   ");
-    for (size_t at = 4 * (size_t)place; at + 4 <= m->program.length; at += 4) {
-        printf(" %08lX", (unsigned long)vex_word(m->program.at + at));
-        if (m->program.at[at] >> 7) break;
-    }
-    printf("\n");
-}
-
-/* A place and the operations from it to the end of its instruction: as they are listed; where nothing can be listed, as the text has them; and else
- * their syllables. */
+/* A place, the syllables from it to the end of its instruction, and of a text the line where the instruction begins. */
 static void say_place(const char *name, uint32_t place, const struct machine *m) {
     struct vex_text text = text_of(m);
-    printf("  %s: syllable %lu (byte %lu)", name, (unsigned long)place, 4 * (unsigned long)place);
-    if (m->text.at != NULL) printf(", %s:%lu", m->name, (unsigned long)vex_text_line(&text, place));
+    printf("  %s: syllable %lu (byte %lu):", name, (unsigned long)place, 4 * (unsigned long)place);
+    for (size_t at = 4 * (size_t)place; at + 4 <= m->program.length; at += 4) {
+        uint32_t syllable = vex_word(m->program.at + at);
+        printf(" %08lX", (unsigned long)syllable);
+        if (syllable >> 31) break;
+    }
     printf("\n");
-    if (say_listed(m, place)) return;
-    if (m->text.at != NULL) say_lines(m, place);
-    else say_syllables(m, place);
+    if (m->text.at == NULL) return;
+    printf("    ");
+    say_line(m, vex_text_line(&text, place));
 }
 
 void say_refusal(const char *entry, struct vex_answer answer, const struct machine *m) {
-    int faults = answer.number >= VEX_IN_FLIGHT && answer.number <= VEX_BAD_LINK;
+    const char *verb = answer.number < VEX_IN_FLIGHT ? "refuses" : "faults";
     struct vex_given given = given_of(m);
     char cause[VEX_CAUSE_BYTES];
 
-    printf("%s %s, number %lu: %s\n", entry, faults ? "faults" : "refuses", (unsigned long)answer.number, vex_words(answer));
+    printf("%s %s, number %lu: %s\n", entry, verb, (unsigned long)answer.number, vex_words(answer));
     if (vex_cause(&given, answer, cause, sizeof cause) > 0) printf("  cause: %s\n", cause);
     if (answer.number == VEX_TOO_SOON) {
         say_place("producer", answer.count, m);
         say_place("consumer", answer.place, m);
-    } else if (faults || (answer.number >= VEX_NO_END && answer.number <= VEX_BAD_CONTROL)) {
+    } else if (answer.number > VEX_BAD_LENGTH && answer.number != VEX_BAD_STATE) {
         say_place("place", answer.place, m);
     }
 }

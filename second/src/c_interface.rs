@@ -74,22 +74,6 @@ pub unsafe extern "C" fn vex_assemble(
     interface::assemble(given(text, text_len), lent(program, program_len), lent(room, room_len))
 }
 
-/// # Safety
-/// As for `vex_load`; text and room are writable and do not overlap anything.
-#[no_mangle]
-pub unsafe extern "C" fn vex_list(
-    table: *const u8,
-    table_len: usize,
-    program: *const u8,
-    program_len: usize,
-    text: *mut u8,
-    text_len: usize,
-    room: *mut u8,
-    room_len: usize,
-) -> u32 {
-    interface::list(given(table, table_len), given(program, program_len), lent(text, text_len), lent(room, room_len))
-}
-
 // A slice may not be made from a null pointer, not even an empty one.
 unsafe fn given<'a>(pointer: *const u8, length: usize) -> &'a [u8] {
     if length == 0 {
@@ -118,8 +102,6 @@ mod tests {
         assert_eq!(nothing, 1);
         let nothing = unsafe { vex_assemble(null(), 0, null_mut(), 0, null_mut(), 0) };
         assert_eq!(nothing, 2);
-        let nothing = unsafe { vex_list(null(), 0, null(), 0, null_mut(), 0, null_mut(), 0) };
-        assert_eq!(nothing, 1);
         let table = [1u8, 4, 4, 2, 1, 0, 1, 2, 2, 3, 1];
         let program = [0xC0u8, 4, 0, 0];
         let (mut state, mut room) = ([0u8; 2888], [9u8; 12]);
@@ -142,19 +124,5 @@ mod tests {
         };
         assert_eq!(number, 255);
         assert_eq!(room, [0, 0, 0, 255, 0, 0, 0, 0, 0, 0, 0, 0]);
-    }
-
-    #[test]
-    fn a_listing_into_nothing_is_21() {
-        let table = [1u8, 4, 4, 2, 1, 0, 1, 2, 2, 3, 1];
-        let program = [0xC0u8, 4, 0, 0];
-        let (mut text, mut room) = ([9u8; 16], [9u8; 12]);
-        let mut listed = |text: *mut u8, length: usize| unsafe {
-            vex_list(table.as_ptr(), 11, program.as_ptr(), 4, text, length, room.as_mut_ptr(), 12)
-        };
-        assert_eq!(listed(null_mut(), 0), 21);
-        assert_eq!(listed(text.as_mut_ptr(), 16), 0);
-        assert_eq!(&text, b"    c0 stop\n;;\n\x09");
-        assert_eq!(room, [0, 0, 0, 0, 0, 0, 0, 15, 0, 0, 0, 0]);
     }
 }

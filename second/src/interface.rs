@@ -1,9 +1,8 @@
-//! load, check, run, assemble and list on numbers and byte slices; each fills the answer room and returns the number.
+//! load, check, run and assemble on numbers and byte slices; each fills the answer room and returns the number.
 
 use crate::answer::{Answer, Refusal};
 use crate::assemble;
 use crate::check;
-use crate::list;
 use crate::load::{self, Lengths};
 use crate::run;
 
@@ -44,15 +43,6 @@ pub fn assemble(text: &[u8], program: &mut [u8], room: &mut [u8]) -> u32 {
         Answer { number: 0, count: syllables.len() as u32, place: 0 }
     });
     answered(assembled, room)
-}
-
-/// A refusal writes nothing to the text; what is behind the listing stays as it was.
-pub fn list(table: &[u8], program: &[u8], text: &mut [u8], room: &mut [u8]) -> u32 {
-    let listed = list::list(table, program, text.len(), room.len()).map(|listing| {
-        text[..listing.len()].copy_from_slice(listing.as_bytes());
-        Answer { number: 0, count: listing.len() as u32, place: 0 }
-    });
-    answered(listed, room)
 }
 
 fn answered(outcome: Result<Answer, Refusal>, room: &mut [u8]) -> u32 {
@@ -121,32 +111,5 @@ mod tests {
         assert_eq!(refused(b"c0 stop", 13), (2, vec![0xEE; 13]));
         assert_eq!(refused(b"c0 stop;", 11), (18, vec![0xEE; 11]));
         assert_eq!(refused(b"c0 goto 0-1", 0), (20, vec![]));
-    }
-
-    #[test]
-    fn list_writes_the_listing_and_nothing_behind_it() {
-        let (mut text, mut room) = ([0xEE; 17], [0xEE; 12]);
-        assert_eq!(list(&ONE, &STOP, &mut text, &mut room), 0);
-        assert_eq!(&text, b"    c0 stop\n;;\n\xEE\xEE");
-        assert_eq!(room, [0, 0, 0, 0, 0, 0, 0, 15, 0, 0, 0, 0]);
-    }
-
-    #[test]
-    fn a_refused_listing_leaves_the_text_as_it_was() {
-        let refused = |table: &[u8], program: &[u8], length: usize, size: usize| {
-            let (mut text, mut room) = (vec![0xEE; length], vec![0xEE; size]);
-            let number = list(table, program, &mut text, &mut room);
-            assert_eq!(text, vec![0xEE; length]);
-            (number, room)
-        };
-        let room = |number: u8, place: u8| vec![0, 0, 0, number, 0, 0, 0, 0, 0, 0, 0, place];
-        assert_eq!(refused(&ONE, &STOP, 14, 12), (21, room(21, 0)));
-        assert_eq!(refused(&ONE, &[], 0, 12), (2, room(2, 0)));
-        assert_eq!(refused(&[], &STOP, 40, 12), (1, room(1, 0)));
-        assert_eq!(refused(&ONE, &[0xC0, 0, 0, 0], 40, 12), (8, room(8, 0)));
-        // A bad room comes before 3 and so before 21, and is never written.
-        assert_eq!(refused(&ONE, &STOP, 14, 13), (2, vec![0xEE; 13]));
-        assert_eq!(refused(&ONE, &STOP, 40, 0), (2, vec![]));
-        assert_eq!(refused(&[], &STOP, 40, 11), (1, vec![0xEE; 11]));
     }
 }

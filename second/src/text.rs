@@ -76,7 +76,7 @@ fn read_lines(input: &[u8]) -> Result<Lines, Refusal> {
 }
 
 /// The items of a line: at least one, single blanks between, each of so many upper-case digits.
-pub fn items(line: &[u8], digits: usize) -> Result<Vec<u32>, &'static str> {
+fn items(line: &[u8], digits: usize) -> Result<Vec<u32>, &'static str> {
     line.split(|&byte| byte == b' ').map(|item| number(item, digits)).collect()
 }
 
@@ -119,7 +119,7 @@ fn bit_31_on_the_last_only(words: &[u32]) -> Result<(), &'static str> {
     Ok(())
 }
 
-pub fn first_line(answer: Answer) -> String {
+fn first_line(answer: Answer) -> String {
     format!("{:02X} {:08X} {:08X}\n", answer.number, answer.count, answer.place)
 }
 

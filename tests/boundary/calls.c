@@ -25,7 +25,6 @@ void begin(struct call *c) {
     c->state_len = VEX_STATE_BYTES;
     c->memory_len = 64;
     c->room_len = VEX_ROOM_BYTES;
-    c->listing_len = sizeof c->listing;
     c->n = 16;
 }
 
@@ -44,10 +43,6 @@ uint32_t perform(struct call *c, enum entry entry) {
     memset(c->room, 0x5A, sizeof c->room);
     if (entry == ASSEMBLE)
         return vex_assemble((const uint8_t *)c->text, strlen(c->text), c->program, c->program_len, c->room, c->room_len);
-    if (entry == LIST) {
-        memset(c->listing, 0x5A, sizeof c->listing);
-        return vex_list(c->table, c->table_len, c->program, c->program_len, c->listing, c->listing_len, c->room, c->room_len);
-    }
     if (entry == LOAD) return vex_load(c->table, c->table_len, c->program, c->program_len, c->room, c->room_len);
     if (entry == CHECK) return vex_check(c->table, c->table_len, c->program, c->program_len, c->room, c->room_len);
     return vex_run(c->table, c->table_len, c->program, c->program_len, c->state, c->state_len, c->memory, c->memory_len, NULL, 0, c->n, c->room,

@@ -7,18 +7,17 @@
 
 #include "vex.h"
 
-enum entry { LOAD, CHECK, RUN, LIST, ASSEMBLE };
+enum entry { LOAD, CHECK, RUN, ASSEMBLE };
 
-/* The slices of one call, with room for lengths beyond each limit. The text is assemble's, a C string; the listing is what list writes. */
+/* The slices of one call, with room for lengths beyond each limit. The text is assemble's, a C string. */
 struct call {
     const char *text;
-    uint8_t table[64], program[20000], state[4096], memory[70000], room[64], listing[VEX_LISTING_BYTES_MAX];
-    size_t table_len, program_len, state_len, memory_len, room_len, listing_len;
+    uint8_t table[64], program[20000], state[4096], memory[70000], room[64];
+    size_t table_len, program_len, state_len, memory_len, room_len;
     uint32_t n;
 };
 
-/* A call with nothing wrong but that it has no program yet: a table of 4 clusters, a state of zeros, 64 bytes of memory, n = 16, room for every
- * listing. */
+/* A call with nothing wrong but that it has no program yet: a table of 4 clusters, a state of zeros, 64 bytes of memory, n = 16. */
 void begin(struct call *c);
 
 /* The table of so many clusters: each 4 wide, 4 ALU, 2 MUL, 1 MEM, 1 COPY; delays ALU 1, CMPB 2, MUL 2, LOAD 3, COPY 1. */
@@ -33,7 +32,7 @@ void begin_text(struct call *c, const char *text);
 void put_word(uint8_t *at, uint32_t word);
 uint32_t word_at(const uint8_t *at);
 
-/* Performs the call and returns its number; the room's bytes were 0x5A before, and the listing's. */
+/* Performs the call and returns its number; the room's bytes were 0x5A before. */
 uint32_t perform(struct call *c, enum entry entry);
 
 /* Whether the call returns this number and the room gets it, with this count and place. */
@@ -49,7 +48,6 @@ int answers(struct call *c, enum entry entry, uint32_t number, uint32_t count, u
 #define CALL(target) OPERATION(0, 2, 0, target)
 #define RETURN OPERATION(0, 3, 0, 0)
 #define ADD(t, s1, low) OPERATION(1, t, s1, low)
-#define ADDCG(t, d, b, s1, s2) OPERATION(23, t, s1, (uint32_t)(b) << 9 | (uint32_t)(d) << 6 | (uint32_t)(s2))
 #define MPYLL(t, s1, low) OPERATION(24, t, s1, low)
 #define SLCT(t, s1, s2, b) OPERATION(50, t, s1, (uint32_t)(b) << 9 | (uint32_t)(s2))
 #define LDW(t, s1, offset) OPERATION(52, t, s1, offset)

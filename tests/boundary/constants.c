@@ -32,15 +32,13 @@ static void after_nop(size_t count, const uint32_t *syllables) {
 }
 #define AFTER_NOP(...) after_nop(sizeof((uint32_t[]){__VA_ARGS__}) / sizeof(uint32_t), (uint32_t[]){__VA_ARGS__})
 
-/* A number that load, check, run and list all give. */
+/* A number that load, check and run all give. */
 static int refused(uint32_t number, uint32_t place) {
-    return answers(&c, LOAD, number, 0, place) && answers(&c, CHECK, number, 0, place) && answers(&c, RUN, number, 0, place) &&
-           answers(&c, LIST, number, 0, place);
+    return answers(&c, LOAD, number, 0, place) && answers(&c, CHECK, number, 0, place) && answers(&c, RUN, number, 0, place);
 }
 
 static int taken(void) {
-    return answers(&c, LOAD, VEX_GOOD, 0, 0) && answers(&c, CHECK, VEX_GOOD, 0, 0) && answers(&c, RUN, VEX_STOPPED, 0, 0) &&
-           perform(&c, LIST) == VEX_GOOD;
+    return answers(&c, LOAD, VEX_GOOD, 0, 0) && answers(&c, CHECK, VEX_GOOD, 0, 0) && answers(&c, RUN, VEX_STOPPED, 0, 0);
 }
 
 static int assembled(const char *text, uint32_t number, uint32_t count, uint32_t place) {
@@ -94,12 +92,6 @@ static void numbers(void) {
     AFTER_NOP(END | OPENS | RETURN, END | OPENS | STOP);
     put_word(c.state + VEX_STATE_LINK, 3);
     HOLD(VEX_BAD_LINK, answers(&c, LOAD, VEX_GOOD, 0, 0) && answers(&c, RUN, VEX_BAD_LINK, 1, 1));
-    for (size_t lent = 0; lent <= 20; lent++) {
-        stop();
-        c.listing_len = lent;
-        int fits = lent >= strlen("    c0 stop\n;;\n");
-        HOLD(VEX_TOO_LONG, fits ? answers(&c, LIST, VEX_GOOD, 15, 0) : answers(&c, LIST, VEX_TOO_LONG, 0, 0));
-    }
 }
 
 /* One byte of the table: its limit is taken, one more is refused. */
@@ -177,7 +169,6 @@ static void lengths(void) {
         stop();
         c.room_len = bytes;
         HOLD(VEX_ROOM_BYTES, perform(&c, LOAD) == (bytes == VEX_ROOM_BYTES ? VEX_GOOD : VEX_BAD_LENGTH));
-        HOLD(VEX_ROOM_BYTES, perform(&c, LIST) == (bytes == VEX_ROOM_BYTES ? VEX_GOOD : VEX_BAD_LENGTH));
         begin_text(&c, "c0 stop");
         c.room_len = bytes;
         HOLD(VEX_ROOM_BYTES, perform(&c, ASSEMBLE) == (bytes == VEX_ROOM_BYTES ? VEX_GOOD : VEX_BAD_LENGTH));
@@ -188,45 +179,6 @@ static void lengths(void) {
     HOLD(VEX_ROOM_NUMBER, number == VEX_OUT_OF_BOUNDS && word_at(c.room + VEX_ROOM_NUMBER) == number);
     HOLD(VEX_ROOM_COUNT, word_at(c.room + VEX_ROOM_COUNT) == 3);
     HOLD(VEX_ROOM_PLACE, word_at(c.room + VEX_ROOM_PLACE) == 4);
-}
-
-/* The length of a syllable's line in the listing of a program that it begins and stops fill up; 0 if that is none. */
-static size_t line_of(uint32_t syllable, size_t syllables) {
-    begin(&c);
-    put(&c, END | OPENS | syllable);
-    while (c.program_len < VEX_SYLLABLE_BYTES * syllables) put(&c, END | OPENS | STOP);
-    if (perform(&c, LIST) != VEX_GOOD) return 0;
-    return (size_t)((const uint8_t *)memchr(c.listing, '\n', sizeof c.listing) + 1 - c.listing);
-}
-
-/* The longest line: every opcode with the registers and numbers that are longest to write, and targets in the longest program. */
-static size_t longest_line(size_t syllables) {
-    static const uint32_t lows[] = {0, 1, 63, 0x800, IMMEDIATE(-1024), 0xE3F, 0xFFF};
-    const size_t last = syllables - 1;
-    const uint32_t controls[] = {CALL(last), GOTO(last), BR(7, last), BR(7, last) | GOTO(0)}; /* opcode 62 with a bit of 61 is 63, brf */
-    size_t longest = 0, length;
-    for (uint32_t opcode = 0; opcode <= 60; opcode++)
-        for (uint32_t t = 7; t <= 63; t += 56)
-            for (size_t i = 0; i < sizeof lows / sizeof lows[0]; i++)
-                if ((length = line_of(OPERATION(opcode, t, 63, lows[i]), 2)) > longest) longest = length;
-    for (size_t i = 0; i < sizeof controls / sizeof controls[0]; i++)
-        if ((length = line_of(controls[i], syllables)) > longest) longest = length;
-    return longest;
-}
-
-/* So many syllables, each with the longest line, the end of an instruction and the longest label; and the longest listing there is fits. */
-static void listings(void) {
-    enum { SYLLABLES = VEX_PROGRAM_BYTES_MAX / VEX_SYLLABLE_BYTES };
-    HOLD(VEX_LISTING_BYTES_MAX, VEX_LISTING_BYTES_MAX == SYLLABLES * (longest_line(SYLLABLES) + strlen(";;\n") + strlen("L4095:\n")));
-    begin(&c);
-    while (c.program_len < VEX_PROGRAM_BYTES_MAX - 4) put(&c, END | OPENS | ADDCG(63, 7, 7, 63, 63));
-    put(&c, END | OPENS | GOTO(SYLLABLES - 1));
-    HOLD(VEX_LISTING_BYTES_MAX, perform(&c, LIST) == VEX_GOOD);
-    uint32_t length = word_at(c.room + VEX_ROOM_COUNT);
-    HOLD(VEX_LISTING_BYTES_MAX, length <= VEX_LISTING_BYTES_MAX && memcmp(c.listing + length - 3, ";;\n", 3) == 0);
-    HOLD(VEX_LISTING_BYTES_MAX, VEX_LISTING_BYTES_MAX < 262144); /* what the program assemble takes */
-    c.listing_len = length - 1;
-    HOLD(VEX_TOO_LONG, answers(&c, LIST, VEX_TOO_LONG, 0, 0));
 }
 
 /* Opens the clusters up to this one, with a nop in each before it. */
@@ -331,7 +283,6 @@ int main(void) {
     numbers();
     tables();
     lengths();
-    listings();
     registers();
     link_register();
     fields();

@@ -1,7 +1,6 @@
 /* Runs each entry on a stack of its own, filled with a pattern and with an unreadable page below it, and holds the deepest byte that was written to
- * VEX_STACK_BYTES, for assemble to VEX_ASSEMBLE_STACK_BYTES. The frame of the function that makes the call counts with it. The calls are made to go
- * deep: the longest programs, a check that follows 254 places, every operation, each way that a run ends, the longest listing and one with most
- * labels, and texts of expressions as deep as they may be. Prints the depths. */
+ * VEX_STACK_BYTES, for assemble to VEX_ASSEMBLE_STACK_BYTES. The frame of the function that makes the call counts with it. The calls are made to go deep: the longest programs, a check
+ * that follows 254 places, every operation, each way that a run ends, and texts of expressions as deep as they may be. Prints the depths. */
 #define _GNU_SOURCE
 #include <stdio.h>
 #include <stdlib.h>
@@ -103,7 +102,7 @@ static void kernel(const struct kernel *k) {
 
 /* The deepest call of each entry so far. */
 static size_t deepest[ASSEMBLE + 1];
-static const char *const entries[] = {"load", "check", "run", "list", "assemble"};
+static const char *const entries[] = {"load", "check", "run", "assemble"};
 
 static void measure_one(const char *name, enum entry of, uint32_t wanted) {
     size_t reached = depth(of);
@@ -118,23 +117,6 @@ static void measure(const char *name, uint32_t load, uint32_t check, uint32_t ru
     measure_one(name, LOAD, load);
     measure_one(name, CHECK, check);
     measure_one(name, RUN, run);
-    measure_one(name, LIST, load);
-}
-
-/* The program, listed where it just fits, and where it does not by one byte. */
-static void measure_listing(const char *name) {
-    measure_one(name, LIST, VEX_GOOD);
-    c.listing_len = word_at(c.room + VEX_ROOM_COUNT);
-    measure_one(name, LIST, VEX_GOOD);
-    c.listing_len--;
-    measure_one(name, LIST, VEX_TOO_LONG);
-}
-
-/* 4,096 syllables with the longest line each, but for the last. */
-static void longest_listing(void) {
-    begin(&c);
-    while (c.program_len < VEX_PROGRAM_BYTES_MAX - VEX_SYLLABLE_BYTES) put(&c, END | OPENS | ADDCG(63, 7, 7, 63, 63));
-    put(&c, END | OPENS | GOTO(4095));
 }
 
 /* The longest program as a text: first every field with an expression 16 brackets deep and a label inside, then nops; then one more line. */
@@ -191,12 +173,6 @@ int main(void) {
     measure("two clusters", VEX_GOOD, VEX_GOOD, VEX_PAUSED);
     kernel(calls_kernel());
     measure("calls", VEX_GOOD, VEX_GOOD, VEX_PAUSED);
-    longest_listing();
-    measure_listing("the longest listing");
-    kernel(listed_kernel());
-    measure_listing("a listing with 2,048 labels");
-    every_operation();
-    measure_listing("a listing of every operation");
     measure_text("a text", "c0 stop", VEX_GOOD);
     measure_text("a text of 4,097 syllables", "c1 stop", VEX_BAD_LENGTH);
     measure_text("seventeen brackets", "c0 goto (((((((((((((((((0", VEX_BAD_TEXT);

@@ -1,7 +1,6 @@
 /* Says answers in words, for tests/words.test. Standard input: for each answer nine words, 1 if it is assemble's and else 0, the lengths of text,
- * table, program, state and memory, then number, count and place; then the bytes of text, table, program and state. The text is what is assembled, or
- * what list was lent. Standard output: a line each, words, a tab, the cause, a tab, and of an assembled text the lines of the first syllables and of
- * what is behind the last. */
+ * table, program, state and memory, then number, count and place; then the bytes of text, table, program and state. Standard output: a line each,
+ * words, a tab, the cause, a tab, and of an assembled text the lines of the first syllables and of what is behind the last. */
 #include <stdio.h>
 #include <stdlib.h>
 
@@ -21,7 +20,7 @@ int main(void) {
         for (int i = 0; i < 9; i++) w[i] = vex_word(head + 4 * i);
         uint8_t *text = taken(w[1]), *table = taken(w[2]), *program = taken(w[3]), *state = taken(w[4]);
         struct vex_text written = {w[1] > 0 ? text : NULL, w[1], w[3]};
-        struct vex_given given = {table, program, state, w[2], w[3], w[4], w[5], w[1]};
+        struct vex_given given = {table, program, state, w[2], w[3], w[4], w[5]};
         struct vex_answer answer = {w[6], w[7], w[8]};
         char cause[VEX_CAUSE_BYTES];
         for (size_t size = 0; size <= sizeof cause; size += size < 20 ? 20 : sizeof cause - 20) { /* none, cut, whole */

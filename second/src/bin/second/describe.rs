@@ -62,15 +62,7 @@ fn meaning(request: &Request, name: &str, index: usize) -> String {
 fn heads(request: &Request, own: &[u8], other: &[u8]) -> String {
     match request {
         Request::Values { .. } => String::new(),
-        Request::List(call) => {
-            // Behind the room the text, if it was written.
-            let text = |answer: &[u8]| shortened(answer.get(4 + call.room.len()..).unwrap_or(&[]));
-            let head = |answer: &[u8]| hex(&answer[..answer.len().min(16)], 16);
-            format!("here {}\n{}\nthere {}\n{}\n", head(own), text(own), head(other), text(other))
-        }
-        Request::Text(_) | Request::Source(_) | Request::Digits(_) => {
-            format!("here:\n{}there:\n{}", lines(&own[4..]), lines(&other[4..]))
-        }
+        Request::Text(_) | Request::Source(_) => format!("here:\n{}there:\n{}", lines(&own[4..]), lines(&other[4..])),
         _ => {
             let head = |answer: &[u8]| hex(&answer[..answer.len().min(16)], 16);
             format!("here {}\nthere {}\n", head(own), head(other))
@@ -128,15 +120,6 @@ pub fn call(request: &Request) -> String {
             call.room.len(),
         ),
         Request::Source(input) => format!("source of {} bytes\n{}\n", input.len(), shortened(input)),
-        Request::List(call) => format!(
-            "list\ntable {}\nprogram of {} bytes\n{}text of {} bytes\nroom of {} bytes\n",
-            hex(&call.table, 64),
-            call.program.len(),
-            program(&call.program),
-            call.text.len(),
-            call.room.len(),
-        ),
-        Request::Digits(input) => format!("digits of {} bytes\n{}\n", input.len(), shortened(input)),
     }
 }
 

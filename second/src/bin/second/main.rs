@@ -1,6 +1,5 @@
 //! Compares this program with another over a process boundary, and answers requests itself.
 
-mod back;
 mod compare;
 mod describe;
 mod generate;
@@ -19,8 +18,8 @@ const USAGE: &str = "\
 second KIND --seed S --count N [--first I] [-- COMMAND ..]
     compares a fixed set of calls and N random ones after it with the answers of the
     command, byte by byte; without a command this program answers itself.
-    KIND is values, load, check, run, text, assemble, source, list or digits; --first
-    leaves out the calls before the I-th
+    KIND is values, load, check, run, text, assemble or source; --first leaves out the
+    calls before the I-th
 second landings --seed S --count N [-- COMMAND ..]
     runs N programs that check passes with several landing lists each and
     compares them with the plain machine
@@ -39,9 +38,9 @@ second replay < requests > answers
 const COMPARE: &str = "second KIND --seed S --count N [--first I] [-- COMMAND ..]";
 const LANDINGS: &str = "second landings --seed S --count N [-- COMMAND ..]";
 const RECORD: &str = "second record KIND --seed S --count N [--first I] [--only I] > requests; \
-    KIND is values, load, check, run, text, assemble, source, list or digits";
+    KIND is values, load, check, run, text, assemble or source";
 const SELECT: &str = "second select KIND --seed S --count N --each K --most B > requests; \
-    KIND is values, load, check, run, text, assemble, source, list or digits";
+    KIND is values, load, check, run, text, assemble or source";
 
 /// What stands on the command line after the subcommand.
 struct Options {
@@ -127,12 +126,7 @@ fn compared(kind: Kind, options: &Options) -> Result<bool, String> {
     let indices = options.first.unwrap_or(0)..kind.fixed() + options.count;
     let requests = indices.map(move |index| (index, kind.request(seed, index)));
     let mut tally = Tally::default();
-    let judge = |request: &Request, answer: &[u8]| {
-        let read_back =
-            || back::wrong(request).map(|wrong| format!("with seed {seed}\ndiffers in the listing read back: {wrong}"));
-        compare::same_bytes(request, answer).or_else(read_back)
-    };
-    let good = compare::compare(requests, &options.command, &judge, &mut tally)?;
+    let good = compare::compare(requests, &options.command, &compare::same_bytes, &mut tally)?;
     tally.print();
     Ok(good)
 }

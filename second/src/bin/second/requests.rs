@@ -1,6 +1,6 @@
 //! Requests and answers as they go over the process boundary: 4-byte big-endian words and plain bytes.
 
-use second::{digits, interface, source, syllable::Syllable, text, values};
+use second::{interface, source, syllable::Syllable, text, values};
 use std::io::{self, Read, Write};
 
 #[derive(Clone)]
@@ -29,14 +29,6 @@ pub struct Assemble {
 }
 
 #[derive(Clone)]
-pub struct List {
-    pub table: Vec<u8>,
-    pub program: Vec<u8>,
-    pub text: Vec<u8>,
-    pub room: Vec<u8>,
-}
-
-#[derive(Clone)]
 pub enum Request {
     Values { s1: u32, s2: u32, b: u32, syllable: u32 },
     Load(Program),
@@ -45,8 +37,6 @@ pub enum Request {
     Text(Vec<u8>),
     Assemble(Assemble),
     Source(Vec<u8>),
-    List(List),
-    Digits(Vec<u8>),
 }
 
 const VALUES_WORDS: usize = 138;
@@ -83,11 +73,6 @@ impl Request {
                 vec![&call.text, &call.program, &call.room],
             ),
             Request::Source(input) => (vec![7, length(input)], vec![input]),
-            Request::List(call) => (
-                vec![8, length(&call.table), length(&call.program), length(&call.text), length(&call.room)],
-                vec![&call.table, &call.program, &call.text, &call.room],
-            ),
-            Request::Digits(input) => (vec![9, length(input)], vec![input]),
         };
         for index in 0..8 {
             to.write_all(&header.get(index).copied().unwrap_or(0).to_be_bytes())?;
@@ -137,13 +122,6 @@ impl Request {
                 room: string(word(3))?,
             }),
             7 => Request::Source(string(word(1))?),
-            8 => Request::List(List {
-                table: string(word(1))?,
-                program: string(word(2))?,
-                text: string(word(3))?,
-                room: string(word(4))?,
-            }),
-            9 => Request::Digits(string(word(1))?),
             kind => return Err(io::Error::new(io::ErrorKind::InvalidData, format!("no request kind {kind}"))),
         }))
     }
@@ -178,11 +156,6 @@ impl Request {
                 [&number.to_be_bytes()[..], &call.room, &call.program].concat()
             }
             Request::Source(input) => with_length(&source::source(&input)),
-            Request::List(mut call) => {
-                let number = interface::list(&call.table, &call.program, &mut call.text, &mut call.room);
-                [&number.to_be_bytes()[..], &call.room, &call.text].concat()
-            }
-            Request::Digits(input) => with_length(&digits::digits(&input)),
         }
     }
 
@@ -201,7 +174,7 @@ impl Request {
 
     /// Whether the answer is a program's output.
     pub fn has_output(&self) -> bool {
-        matches!(self, Request::Text(_) | Request::Source(_) | Request::Digits(_))
+        matches!(self, Request::Text(_) | Request::Source(_))
     }
 
     /// The names and lengths of an answer's fields; a program's output follows them.
@@ -218,8 +191,7 @@ impl Request {
             Request::Assemble(call) => {
                 vec![("result", 4), ("room", call.room.len()), ("program", call.program.len())]
             }
-            Request::List(call) => vec![("result", 4), ("room", call.room.len()), ("text", call.text.len())],
-            Request::Text(_) | Request::Source(_) | Request::Digits(_) => vec![("output length", 4)],
+            Request::Text(_) | Request::Source(_) => vec![("output length", 4)],
         }
     }
 }
@@ -291,8 +263,6 @@ mod tests {
             Request::Text(b"00\n".to_vec()),
             Request::Assemble(Assemble { text: b"c0 nop".to_vec(), program: vec![7; 9], room: vec![8; 11] }),
             Request::Source(b"c0 nop".to_vec()),
-            Request::List(List { table: vec![1], program: vec![2; 4], text: vec![3; 5], room: vec![4; 12] }),
-            Request::Digits(b"00\n".to_vec()),
         ];
         let stream: Vec<u8> = requests.iter().flat_map(written).collect();
         let mut rest = &stream[..];

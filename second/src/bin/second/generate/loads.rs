@@ -8,7 +8,7 @@ use super::random::Random;
 use super::tables;
 use crate::requests::Program;
 
-pub const FULL: usize = 4096;
+const FULL: usize = 4096;
 
 #[derive(Clone, Copy)]
 enum Aim {
@@ -89,7 +89,7 @@ pub fn good_case(random: &mut Random) -> Case {
 }
 
 /// Puts nops before the last instruction until there are so many syllables.
-pub fn lengthen(draft: &mut Draft, syllables: usize) {
+fn lengthen(draft: &mut Draft, syllables: usize) {
     while draft.syllables() < syllables {
         let last = draft.instructions.len() - 1;
         draft.insert(last, vec![Part::new(true, NOP)]);

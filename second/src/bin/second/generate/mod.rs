@@ -5,10 +5,7 @@ pub mod assembles;
 pub mod breaks;
 pub mod build;
 pub mod checks;
-pub mod digits;
 pub mod draft;
-pub mod limits;
-pub mod lists;
 pub mod loads;
 pub mod notation;
 pub mod pairs;
@@ -33,8 +30,6 @@ pub enum Kind {
     Text,
     Assemble,
     Source,
-    List,
-    Digits,
 }
 
 impl Kind {
@@ -47,8 +42,6 @@ impl Kind {
             "text" => Some(Kind::Text),
             "assemble" => Some(Kind::Assemble),
             "source" => Some(Kind::Source),
-            "list" => Some(Kind::List),
-            "digits" => Some(Kind::Digits),
             _ => None,
         }
     }
@@ -61,8 +54,7 @@ impl Kind {
             Kind::Check => singles::CHECKS,
             Kind::Run => singles::RUNS,
             Kind::Assemble => assembles::fixed(),
-            Kind::List => lists::fixed(),
-            Kind::Text | Kind::Source | Kind::Digits => 0,
+            Kind::Text | Kind::Source => 0,
         }
     }
 
@@ -82,9 +74,6 @@ impl Kind {
             Kind::Assemble if fixed => Request::Assemble(assembles::fixed_call(index)),
             Kind::Assemble => Request::Assemble(assembles::call(&mut random)),
             Kind::Source => Request::Source(sources::input(&mut random)),
-            Kind::List if fixed => Request::List(lists::fixed_call(index)),
-            Kind::List => Request::List(lists::call(&mut random)),
-            Kind::Digits => Request::Digits(digits::input(&mut random)),
         }
     }
 }

@@ -6,7 +6,7 @@ use second::state::State;
 use second::syllable::Register;
 
 /// Four clusters with room for everything, all delays 2.
-pub const TABLE: [u8; 26] = [4, 8, 8, 4, 4, 4, 8, 8, 4, 4, 4, 8, 8, 4, 4, 4, 8, 8, 4, 4, 4, 2, 2, 2, 2, 2];
+const TABLE: [u8; 26] = [4, 8, 8, 4, 4, 4, 8, 8, 4, 4, 4, 8, 8, 4, 4, 4, 8, 8, 4, 4, 4, 2, 2, 2, 2, 2];
 
 /// The same with one cluster: the registers of the others count all the same for call and return.
 const NARROW: [u8; 11] = [1, 8, 8, 4, 4, 4, 2, 2, 2, 2, 2];

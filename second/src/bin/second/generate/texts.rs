@@ -186,11 +186,11 @@ fn keep_n_small(text: &mut [u8]) {
     }
 }
 
-pub fn places(text: &[u8], which: impl Fn(u8) -> bool) -> Vec<usize> {
+fn places(text: &[u8], which: impl Fn(u8) -> bool) -> Vec<usize> {
     (0..text.len()).filter(|&at| which(text[at])).collect()
 }
 
-pub fn replace_one(random: &mut Random, text: &mut [u8], which: impl Fn(u8) -> bool, by: impl Fn(u8) -> u8) {
+fn replace_one(random: &mut Random, text: &mut [u8], which: impl Fn(u8) -> bool, by: impl Fn(u8) -> u8) {
     let places = places(text, which);
     if !places.is_empty() {
         let at = random.pick(&places);
@@ -207,7 +207,7 @@ fn replace_late(random: &mut Random, text: &mut [u8], which: u8, by: u8) {
     }
 }
 
-pub fn insert_at(random: &mut Random, text: &mut Vec<u8>, which: impl Fn(u8) -> bool, what: &[u8]) {
+fn insert_at(random: &mut Random, text: &mut Vec<u8>, which: impl Fn(u8) -> bool, what: &[u8]) {
     let places = places(text, which);
     if !places.is_empty() {
         let at = random.pick(&places);
@@ -215,7 +215,7 @@ pub fn insert_at(random: &mut Random, text: &mut Vec<u8>, which: impl Fn(u8) -> 
     }
 }
 
-pub fn insert_after_newline(random: &mut Random, text: &mut Vec<u8>, what: &[u8]) {
+fn insert_after_newline(random: &mut Random, text: &mut Vec<u8>, what: &[u8]) {
     let places = places(text, |byte| byte == b'\n');
     if !places.is_empty() {
         let at = random.pick(&places) + 1;

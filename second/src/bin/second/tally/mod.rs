@@ -2,7 +2,6 @@
 
 mod assembles;
 mod clashes;
-mod lists;
 mod loads;
 mod misreads;
 mod passes;
@@ -46,8 +45,6 @@ impl Tally {
             Request::Text(input) => texts::read(self, input),
             Request::Assemble(call) => assembles::assembled(self, call),
             Request::Source(input) => assembles::printed(self, input),
-            Request::List(call) => lists::listed(self, call),
-            Request::Digits(input) => lists::printed(self, input),
         }
     }
 
