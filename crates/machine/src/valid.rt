@@ -29,11 +29,11 @@ fn bank_breaks<'a>(
     requires value_bound { base + length value.now ≤ 288 }
     requires waiting_len { (length waiting.now ≡ length value.now) × (length busy.now ≡ length value.now) × (length landing.now ≡ length value.now) }
     ensures { result ≡ any_below (λ i. bad_register (base + i) (record {
-      value = get_or value.entry.now i 0;
+      value = get_or value.now i 0;
       waiting = get_or waiting.now i 0;
       busy = get_or busy.now i 0;
       landing = get_or landing.now i 0;
-    })) (length value.entry.now) }
+    })) (length value.now) }
 {
     let mut broken = false;
     for i in 0..value.len() {

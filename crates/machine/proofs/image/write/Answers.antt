@@ -6,15 +6,13 @@ use native.Mathlib.Nat.{zero-add}
 use native.Mathlib.Omega.{arith}
 use lib.ListN.{length, length-append}
 use lib.Seq.{sets, sets-eq, drop-length}
-use borrow.Author.Rules.{rules}
 use Rattle.word.specs.Bytes.{bytes, put_word}
 use Rattle.machine.specs.Image.{image_offset, register_bytes, image_of}
 use Rattle.machine.specs.State.{registers_of, Sized}
 use Rattle.machine.specs.declared.State.{State}
 use Rattle.machine.proofs.Arrays.{cells_length, general_of, branch_of, general, branch}
 use Rattle.machine.proofs.Images.{register_bytes_length, register_bytes_append, sets_append}
-use Rattle.machine.proofs.image.write.Statement.{statement}
-use Rattle.machine.proofs.image.write.Tie as tie
+use Rattle.machine.proofs.image.write.Goals as goal
 
 sets_all : (l xs : List ℕ) → length xs ≡ length l → sets l 0 xs ≡ xs
 sets_all l xs e = rw (sets-eq xs l 0 (omega arith), zero-add, e, drop-length) (append-nil xs)
@@ -37,49 +35,6 @@ filled {s} z image e =
     ∙ sets_append image 0 (w ++ b) k (omega (arith, length-append w b))
     ∙ sets_all image ((w ++ b) ++ k) (omega (arith, length-append w b, length-append (w ++ b) k)))
 
-cast-put-word : tie.Need-overflow-cast-put-word
-cast-put-word c = search rules
-
-put-word-requires : tie.Need-put-word-requires
-put-word-requires c κs = search rules
-
-put-bank-requires : tie.Need-put-bank-requires
-put-bank-requires c κs = search rules
-
-put-bank-requires-2 : tie.Need-put-bank-requires-2
-put-bank-requires-2 c κs = search rules
-
-offset-requires : tie.Need-offset-requires
-offset-requires c κs = search rules
-
-cast-put-word-2 : tie.Need-overflow-cast-put-word-2
-cast-put-word-2 c = search (rules, c.before.before.before.before.before.before.before.before.before.before.before.before.before.before.before.before.before.before.before.before.before.before.before.before.before.before.before.before.before.before.before.before.before.requires.1.1.1)
-
-put-word-requires-2 : tie.Need-put-word-requires-2
-put-word-requires-2 c κs = search rules
-
-same_length : tie.Need-same-length
-same_length c = search rules
-
-returns : tie.Need-returns
+pub returns : goal.returns
 returns c =
-    let link = c.before.before in
-    let second = link.before.before.before.before.before in
-    let first = second.before.before.before.before.before.before.before.before.before.before.before.before.before in
-    let place = first.before.before.before.before.before.before.before.before.before.before.before.before.before in
-    let start = place.before.before.before in
-    rw (link.put-word2.ensures, link.before.offset.ensures, second.put-bank2.ensures, first.put_bank.ensures, place.put_word.ensures) (filled start.requires.1.0 start.args.image.now start.requires.0)
-
-pub write_spec : {M : Type 1} → statement M
-write_spec =
-    tie.close
-    (tie.spec
-    cast-put-word
-    put-word-requires
-    put-bank-requires
-    put-bank-requires-2
-    offset-requires
-    cast-put-word-2
-    put-word-requires-2
-    same_length
-    returns)
+    rw (c.put_word-2.ensures, c.offset.ensures, c.put_bank-2.ensures, c.put_bank.ensures, c.put_word.ensures) (filled c.requires.sized c.args.image.now c.requires.image_len)
