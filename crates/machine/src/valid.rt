@@ -43,9 +43,9 @@ fn bank_breaks<'a>(
 }
 
 // Whether the state's registers break a rule; its place is not looked at.
-pub fn bad_registers(s: State) -> bool
-    requires { Sized s }
-    ensures { result ≡ any_below (λ r. bad_register r (at (registers_of s) r)) 288 }
+pub fn bad_registers(s: &State) -> bool
+    requires { Sized s.now }
+    ensures { result ≡ any_below (λ r. bad_register r (at (registers_of s.now) r)) 288 }
 {
     bank_breaks(0, &s.value, &s.waiting, &s.busy, &s.landing)
         | bank_breaks(
