@@ -1,5 +1,5 @@
 -- Where a control syllable goes. "Control: stop, 61-63", and by order 1 call and return.
-use Rattle.std.specs.Prelude.{Bool, true, false, not, ℕ, ◌-◌, eqb}
+use Rattle.std.specs.Prelude.{Bool, true, false, ℕ, ◌-◌, eqb}
 use Rattle.word.specs.Choice.{pick}
 use Rattle.isa.specs.Syllable.{bits, opcode, format_of}
 use Rattle.isa.specs.declared.Place.{Place}

@@ -2,23 +2,23 @@
 use mathlib.Core.Path.{◌≡◌, refl, sym, ap}
 use mathlib.Core.Bool.{Bool, true, false, ◌||◌}
 use mathlib.Core.Logic.{◌↔◌}
-use Prim.Native.Nat.{ℕ, ◌+◌, ◌-◌, ◌*◌, ◌/◌, ◌%◌, ◌^◌, ◌≤◌, ◌<◌}
+use Prim.Native.Nat.{ℕ, ◌+◌, ◌-◌, ◌*◌, ◌/◌, ◌%◌, ◌^◌, ◌<◌}
 use native.Mathlib.Nat.{mod-one, div-one, mod-lt, mod-eq_of_lt, add-mul-mod_self_right}
 use native.Mathlib.Omega.{arith}
-use lib.Dec.{eqb, ltb, lit<}
+use lib.Dec.{eqb, ltb}
 use lib.Pow.{pow_pos, mod-pow-add, high_ones}
-use borrow.Author.Tests.{eqb-true, eqb-false, ltb-false, eq-eqb, le-ltb, not-false}
+use borrow.Author.Tests.{eqb-true, eqb-false, ltb-false, le-ltb, not-false}
 use Rattle.word.specs.Choice.{pick}
 use Rattle.word.specs.Widen.{widen}
 use Rattle.word.proofs.Choice.{or_false}
 use Rattle.isa.specs.Syllable.{bits, opcode, format_of}
 use Rattle.isa.specs.Register.{general, branch}
-use Rattle.isa.specs.Decode.{two_to, decode_as, decode}
+use Rattle.isa.specs.Decode.{decode_as, decode}
 use Rattle.isa.specs.declared.Format.{Format}
 use Rattle.isa.specs.declared.Format.TheVariants.{Still, Two, One, Carry, Test, Select, Load, Store, Copy, Jump, Fork}
 use Rattle.isa.proofs.Decoded.{decoded}
-use Rattle.zero.specs.Zero.{set, beside_register, bad_bits_as, bad_bits}
-use Rattle.zero.specs.Rebuilt.{kept_of, general_field, branch_field, way_field, s2_field, fields_as, rebuilt, Rebuilds}
+use Rattle.zero.specs.Zero.{set, bad_bits_as, bad_bits}
+use Rattle.zero.specs.Rebuilt.{kept_of, general_field, branch_field, fields_as, rebuilt, Rebuilds}
 
 -- ---- fields
 

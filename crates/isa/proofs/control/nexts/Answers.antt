@@ -1,13 +1,12 @@
 -- The syllables from here on go where all go.
-use mathlib.Core.Path.{◌≡◌, refl, sym, ◌∙◌}
-use Prim.Native.Nat.{◌-◌, ◌≤◌, ◌<◌}
+use mathlib.Core.Path.{sym, ◌∙◌}
+use Prim.Native.Nat.{◌<◌}
 use native.Mathlib.Numerals.{add-one}
 use native.Mathlib.Omega.{arith}
-use lib.ListN.{length, drop}
+use lib.ListN.{length}
 use Rattle.word.specs.Bytes.{words}
 use Rattle.word.proofs.Bytes.{words_length}
-use Rattle.isa.specs.Touch.{nexts}
-use Rattle.isa.proofs.Ways.{along_only, operations, nexts_from, nexts_end}
+use Rattle.isa.proofs.Ways.{along_only, nexts_from, nexts_end}
 use Rattle.isa.proofs.control.nexts.Goals as goal
 use Rattle.isa.proofs.control.nexts.Goals.{In-loop-i}
 

@@ -1,12 +1,9 @@
-use mathlib.Core.Path.{◌≡◌, refl, sym, ◌∙◌}
-use Prim.Native.Nat.{◌-◌, ◌≤◌, ◌<◌}
-use native.Mathlib.Numerals.{add-one}
-use native.Mathlib.Omega.{arith}
+use mathlib.Core.Path.{◌≡◌}
+use Prim.Native.Nat.{◌-◌, ◌≤◌}
 use lib.ListN.{length, drop}
 use Rattle.word.specs.Bytes.{words}
-use Rattle.word.proofs.Bytes.{words_length}
 use Rattle.isa.specs.Touch.{nexts}
-use Rattle.isa.proofs.Ways.{along_only, operations, nexts_from, nexts_end}
+use Rattle.isa.proofs.Ways.{operations}
 use Rattle.isa.proofs.control.nexts.Given as goal
 
 abbrev pub invariant-loop-i : goal.invariant-loop-i

@@ -2,7 +2,7 @@
 use native.Mathlib.Omega.{arith}
 use mathlib.Core.Path.{sym, ◌∙◌}
 use Rattle.isa.specs.declared.Format.TheVariants.{Two, Test, Select}
-use Rattle.isa.proofs.Formats.{within_range, among_two}
+use Rattle.isa.proofs.Formats.{among_two}
 use Rattle.isa.proofs.Arms.{as_form, fields}
 use Rattle.isa.proofs.decode.compute.Goals as goal
 

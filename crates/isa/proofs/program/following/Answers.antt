@@ -1,12 +1,11 @@
 -- The instruction from the loop's place ends where the one from `at` does.
 use mathlib.Core.Path.{◌≡◌, refl, sym, ◌∙◌}
-use mathlib.Core.Logic.{⊎_elim}
 use mathlib.Core.List.{List}
-use Prim.Native.Nat.{ℕ, ◌+◌, ◌-◌, ◌*◌, ◌/◌, ◌^◌, ◌≤◌, ◌<◌}
+use Prim.Native.Nat.{ℕ, ◌+◌, ◌*◌, ◌/◌, ◌^◌, ◌≤◌, ◌<◌}
 use native.Mathlib.Omega.{arith}
 use native.Mathlib.Numerals.{add-one}
 use lib.ListN.{length, get_or}
-use borrow.Author.Tests.{eqb-true, eqb-false, eq-eqb, ne_eqb}
+use borrow.Author.Tests.{eq-eqb, ne_eqb}
 use Rattle.word.specs.Bytes.{AreBytes, words}
 use Rattle.word.proofs.Bytes.{words_length, words_at, word_at_sum}
 use Rattle.isa.specs.Syllable.{bits}
@@ -42,7 +41,7 @@ loop-i-preserved c =
 pub returns : goal.returns
 returns c =
     elim c.loop-i-test.branch [
-      then-loop-i-test+else-program-i-eq0 w ↦
+      | then-loop-i-test+else-program-i-eq0 w ↦
           sym (here c.args.program.now c.loop-i.i (omega arith) (λ j. (c.type_inv.program j).fits) w.if-program-i-eq0.false) ∙ c.loop-i.invariant.1
-    | else-loop-i-test w ↦ sym (end c.args.program.now c.loop-i.i (omega arith) w.loop-i-test.false) ∙ c.loop-i.invariant.1
+      | else-loop-i-test w ↦ sym (end c.args.program.now c.loop-i.i (omega arith) w.loop-i-test.false) ∙ c.loop-i.invariant.1
     ]

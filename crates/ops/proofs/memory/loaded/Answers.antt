@@ -1,5 +1,5 @@
 -- Each arm by its opcode, the last by no opcode of the others.
-use Rattle.std.proofs.Common.{rules, ne_eqb}
+use Rattle.std.proofs.Common.{ne_eqb}
 use Rattle.meanings.specs.Value.{loaded}
 use Rattle.ops.proofs.memory.loaded.Goals as goal
 
