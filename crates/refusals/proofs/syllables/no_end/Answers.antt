@@ -6,7 +6,6 @@ use Prim.Native.Nat.{ℕ, suc, ◌+◌, ◌-◌, ◌/◌}
 use native.Mathlib.Omega.{arith}
 use lib.ListN.{length, get_or}
 use borrow.Author.Count.{below_more}
-use borrow.Author.Rules.{rules}
 use borrow.Author.Tests.{eq-eqb, ne_eqb}
 use Rattle.word.specs.Lists.{NoneBelow}
 use Rattle.word.specs.Bytes.{words}
@@ -17,8 +16,7 @@ use Rattle.isa.specs.Syllable.{ends}
 use Rattle.isa.specs.declared.Found.TheVariants.{At, Nothing}
 use Rattle.isa.proofs.Lowest.{lowest_only}
 use Rattle.refusals.specs.Broken.{no_end_at}
-use Rattle.refusals.proofs.syllables.no_end.Statement.{statement}
-use Rattle.refusals.proofs.syllables.no_end.Tie as tie
+use Rattle.refusals.proofs.syllables.no_end.Goals as goal
 
 module _ (p : List ℕ) (k : ℕ) (e : k + 1 ≡ length p) where
   earlier : NoneBelow (no_end_at p) k
@@ -35,21 +33,13 @@ module _ (p : List ℕ) (k : ℕ) (e : k + 1 ≡ length p) where
   some : ends (get_or p k 0) ≡ false → At (place k) ≡ lowest (no_end_at p) (length p)
   some h = lowest_only (no_end_at p) (length p) (omega arith, at_last false h, earlier)
 
-sub-t5 : tie.Need-overflow-sub-t5
-sub-t5 c = omega (arith, words_length c.before.args.program.now)
+pub syllable-requires : goal.syllable-requires
+syllable-requires c = omega (arith, words_length c.args.program.now)
 
-syllable-requires : tie.Need-syllable-requires
-syllable-requires c κs = omega (arith, words_length c.before.args.program.now)
+pub returns-then-ends : goal.returns-then-ends
+returns-then-ends c =
+    none (words c.args.program.now) (length c.args.program.now / 4 - 1) (omega (arith, words_length c.args.program.now)) (rw (← c.syllable.ensures, ← c.ends.ensures) c.if-ends.true)
 
-returns : tie.Need-returns
-returns c =
-    let l = c.before.before.before.before.args.program.now in
-    none (words l) (length l / 4 - 1) (omega (arith, words_length l)) (rw (← c.before.before.syllable.ensures, ← c.before.ends.ensures) c.if1.true)
-
-returns-2 : tie.Need-returns-2
-returns-2 c =
-    let l = c.before.before.before.before.args.program.now in
-    some (words l) (length l / 4 - 1) (omega (arith, words_length l)) (rw (← c.before.before.syllable.ensures, ← c.before.ends.ensures) c.if1.false)
-
-pub no-end-spec : {M : Type 1} → statement M
-no-end-spec = tie.close (tie.spec sub-t5 syllable-requires (λ c κs. search rules) returns returns-2)
+pub returns-else-ends : goal.returns-else-ends
+returns-else-ends c =
+    some (words c.args.program.now) (length c.args.program.now / 4 - 1) (omega (arith, words_length c.args.program.now)) (rw (← c.syllable.ensures, ← c.ends.ensures) c.if-ends.false)
