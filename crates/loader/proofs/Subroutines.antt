@@ -1,5 +1,5 @@
 -- Calls and returns of a program that loading takes: after a call an instruction follows, and a return is alone.
-use mathlib.Core.Path.{◌≡◌, refl, sym, ap, ◌∙◌}
+use mathlib.Core.Path.{◌≡◌, sym, ap, ◌∙◌}
 use mathlib.Core.Logic.{⊎_elim}
 use mathlib.Core.Bool.{true}
 use mathlib.Core.List.Memᴰ
@@ -10,7 +10,6 @@ use native.Mathlib.Omega.{arith}
 use lib.ListN.{length, get_or}
 use Rattle.word.proofs.Choice.{never_both, and_true}
 use Rattle.word.proofs.Lists.{index_of}
-use Rattle.vliw.specs.Machine.{Dest}
 use Rattle.isa.specs.Syllable.{ends}
 use Rattle.isa.specs.Control.{way_of, controls, leaves, solitary}
 use Rattle.isa.specs.Program.{nowhere, spot_at, cluster, is_start, instruction_at, following, operation, operations_at}
@@ -20,7 +19,6 @@ use Rattle.isa.specs.declared.Delays.{Delays}
 use Rattle.isa.specs.declared.Place.{Place}
 use Rattle.isa.specs.declared.Spot.{Spot}
 use Rattle.isa.specs.declared.Table.{Table}
-use Rattle.isa.specs.declared.Way.{Way}
 use Rattle.isa.specs.declared.Way.TheVariants.{Call, Return}
 use Rattle.isa.proofs.Decoded.{decode_way, return_silent}
 use Rattle.isa.proofs.Instructions.{spot_syllable, start_inside, following_here, following_within, between, next_start, instruction_length, instruction_at_lem, operations_length}

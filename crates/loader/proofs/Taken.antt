@@ -1,19 +1,19 @@
 -- What a program that loading takes gives to those that check or run it.
-use mathlib.Core.Path.{◌≡◌, sym}
+use mathlib.Core.Path.{◌≡◌}
 use mathlib.Core.Logic.{◌≢◌, ⊎_elim}
 use mathlib.Core.Bool.{Bool, true, false, not, ◌&&◌}
 use mathlib.Core.List.{List, Memᴰ, Pairwise}
-use Prim.Native.Nat.{ℕ, zero, suc, ◌+◌, ◌-◌, ◌≤◌, ◌<◌}
+use Prim.Native.Nat.{ℕ, zero, suc, ◌+◌, ◌≤◌, ◌<◌}
 use native.Mathlib.Nat.{le_trans, eq-or-lt_of_le}
 use native.Mathlib.Omega.{arith}
 use lib.Dec.{eqb, ltb}
 use lib.ListN.{length, get_or}
-use borrow.Author.Tests.{ltb-false, eqb-true, eq-eqb, not-false}
+use borrow.Author.Tests.{ltb-false, not-false}
 use Rattle.word.specs.Lists.{any, any_below, count, repeats}
-use Rattle.word.proofs.Choice.{by_test, never_both, or_false, and_true}
+use Rattle.word.proofs.Choice.{by_test, never_both, or_false}
 use Rattle.word.proofs.Lists.{index_of, any_below_false, repeats_false}
 use Rattle.isa.specs.Syllable.{ends, opens}
-use Rattle.isa.specs.Control.{place, way_of, is_control, target_of, solitary}
+use Rattle.isa.specs.Control.{place, way_of, target_of, solitary}
 use Rattle.isa.specs.Program.{nowhere, spot_at, cluster, is_start, instruction_at, following, operations_at}
 use Rattle.isa.specs.Touch.{destinations, nexts}
 use Rattle.isa.specs.declared.Spot.{Spot}
@@ -21,8 +21,8 @@ use Rattle.isa.specs.declared.Place.{Place}
 use Rattle.isa.specs.declared.Found.{Found}
 use Rattle.isa.specs.declared.Found.TheVariants.{At}
 use Rattle.isa.specs.declared.Table.{Table}
-use Rattle.isa.proofs.Instructions.{spot_syllable, spot_last, start_inside, start_zero, opened_first, opened_next, following_ends, following_within, following_here, next_start, between, instruction_at_lem}
-use Rattle.refusals.specs.Broken.{no_end_at, bad_cluster_at, overfull, too_wide_at, two_writes_at, misses, leaving, bad_control_at}
+use Rattle.isa.proofs.Instructions.{spot_syllable, spot_last, start_inside, start_zero, opened_first, opened_next, following_within, next_start, instruction_at_lem}
+use Rattle.refusals.specs.Broken.{bad_cluster_at, overfull, too_wide_at, two_writes_at, misses, leaving, bad_control_at}
 use Rattle.loader.specs.Passed.{Passed}
 use Rattle.loader.proofs.Counts.{length_classes}
 use Rattle.refusals.proofs.Last.{last_is}
