@@ -8,10 +8,9 @@ use Rattle.source.specs.Reader.{read_line, hear}
 use Rattle.assembler.specs.Faults.{verdict}
 use Rattle.assembler.specs.Program.{program}
 use Rattle.assembler.specs.Answer.{assembled}
-use Rattle.assembler.proofs.examples.Statement.{statement}
-use Rattle.assembler.proofs.examples.Tie as tie
+use Rattle.assembler.proofs.examples.Goals as goal
 
-returns : tie.Need-returns
+pub returns : goal.returns
 unfolding tokens more_of in_brackets value_e table read_operation read_line hear verdict program assembled
 returns c =
     record {
@@ -32,6 +31,3 @@ returns c =
       step = refl;
       nothing = refl;
     }
-
-pub examples-spec : {M : Type 1} → statement M
-examples-spec = tie.close (tie.spec returns)
