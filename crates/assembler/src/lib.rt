@@ -69,8 +69,8 @@ fn answer(text: &[u8], program: &mut [u8], room: usize) -> Answer
 
 // Assembles a text: the syllables in the program, the answer in the room, and its number returned.
 pub fn assemble(text: &[u8], program: &mut [u8], room: &mut [u8]) -> u32
-    ensures* { λ r. ⌜ record { result = r; program = program.new; room = room.new }
-        ≡ assemble_outcome text.now program.old room.old ⌝ }
+    ensures { record { result = result; program = program.new; room = room.new }
+        ≡ assemble_outcome text.now program.old room.old }
 {
     let a = answer(text, program, room.len());
     answers::write(room, a);

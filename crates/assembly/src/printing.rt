@@ -43,8 +43,8 @@ fn put_refusal(out: &mut [u8], a: Answer) -> usize
 // What a call of assemble left.
 fn put_outcome(out: &mut [u8], number: u32, program: &[u8], room: &[u8]) -> usize
     requires { (length out.old ≡ 36864) × (length program.now ≡ 16384) × (length room.now ≡ 12) }
-    ensures* { λ r. ⌜ Put out.old out.new r
-        (printed_by (record { result = number; program = program.now; room = room.now })) ⌝ }
+    ensures { Put out.old out.new result
+        (printed_by (record { result = number; program = program.now; room = room.now })) }
 {
     let count = word_at(room, 4);
     if number == 0 {

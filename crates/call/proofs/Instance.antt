@@ -1,10 +1,10 @@
 -- The machine as an instance of the abstract one: what loading gives it.
-use mathlib.Core.Path.{◌≡◌, refl}
+use mathlib.Core.Path.{◌≡◌}
 use mathlib.Core.Logic.{◌≢◌, ◌⊎◌, ⊎_elim}
 use mathlib.Core.Bool.{true}
 use mathlib.Core.List.Memᴰ
 use mathlib.Core.List.Pairwise
-use mathlib.Core.List.{List, ◌∷◌, map-map, Memᴰ}
+use mathlib.Core.List.{List, [], ◌∷◌, map-map, Memᴰ}
 use Prim.Native.Nat.{ℕ, ◌+◌, ◌-◌, ◌<◌}
 use native.Mathlib.Omega.{arith}
 use lib.ListN.{length}
@@ -26,12 +26,13 @@ use Rattle.tables.proofs.Bounds.{delay_bounds}
 use Rattle.loader.specs.Passed.{Passed}
 use Rattle.loader.proofs.Taken.{in_cluster, onward, distinct}
 use Rattle.loader.proofs.Subroutines.{return_writes}
-use Rattle.machine.specs.Link.{Memory, Change, change}
+use Rattle.machine.specs.Link.{change}
 use Rattle.machine.specs.Instruction.{instruction_of}
 use Rattle.machine.proofs.Acts.{goes_on_lem, stores_commute, not_in_flight, reads_decide}
 
 -- a return reads every register
 return_reads : (os : List Op) {o : Op} → Memᴰ o os → o.way ≡ Return → (r : ℕ) → r < 288 → Memᴰ r (reads os)
+return_reads [] m w r h = elim m [ ]
 return_reads (o ∷ os) (Memᴰ.head e) w r h =
     Memᴰ.append_left {s = reads_of o} (reads os) (rw (← e, w) (Memᴰ.tail (Memᴰ.tail (Memᴰ.tail (Memᴰ.tail (every_in r h))))))
 return_reads (o ∷ os) (Memᴰ.tail m) w r h = Memᴰ.append_right (reads_of o) (return_reads os m w r h)

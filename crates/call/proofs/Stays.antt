@@ -1,7 +1,7 @@
 -- A run keeps validity.
 use mathlib.Core.Path.{◌≡◌, refl, ◌∙◌}
 use mathlib.Core.Bool.{Bool, true}
-use mathlib.Core.List.{List, [], ◌∷◌, ◌++◌, map, Memᴰ}
+use mathlib.Core.List.{List, [], ◌∷◌, ◌++◌, map}
 use Prim.Native.Nat.{ℕ, zero, suc, ◌/◌, ◌^◌, ◌≤◌, ◌<◌}
 use native.Mathlib.Nat.{mod-lt}
 use native.Mathlib.Omega.{arith}
@@ -15,7 +15,6 @@ use Rattle.vliw.proofs.Lists.{set_each}
 use Rattle.vliw.proofs.Runs.{Keeps, run_ends}
 use Rattle.vliw.proofs.Flight.{arrives}
 use Rattle.isa.specs.Program.{is_start, following, operations_at}
-use Rattle.isa.specs.declared.Op.{Op}
 use Rattle.isa.specs.declared.Table.{Table}
 use Rattle.isa.proofs.Steps.{either_way}
 use Rattle.isa.proofs.Instructions.{start_inside, following_within}

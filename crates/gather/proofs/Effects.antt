@@ -1,5 +1,5 @@
 -- What an operation does, one law for each arm of the code.
-use mathlib.Core.Path.{◌≡◌, refl, sym, subst, ◌∙◌}
+use mathlib.Core.Path.{◌≡◌, refl, sym, subst}
 use mathlib.Core.Logic.{◌≢◌}
 use mathlib.Core.Bool.{Bool, true, false, false≢true, or-true, or-false}
 use mathlib.Core.List.{List, [], ◌∷◌, ◌++◌, append-nil}

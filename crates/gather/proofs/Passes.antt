@@ -19,7 +19,6 @@ use Rattle.vliw.specs.Cell.{Cell, Registers, at}
 use Rattle.isa.specs.Decode.{decode}
 use Rattle.isa.specs.Program.{nowhere, spots, spot_at, spot_before, operation}
 use Rattle.isa.specs.Syllable.{opens}
-use Rattle.isa.specs.Touch.{dests}
 use Rattle.isa.specs.declared.Op.{Op}
 use Rattle.isa.specs.declared.Spot.{Spot}
 use Rattle.isa.specs.declared.Place.{Place}

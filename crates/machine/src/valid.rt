@@ -29,11 +29,11 @@ fn bank_breaks<'a>(
     requires value_bound { base + length value.now ≤ 288 }
     requires waiting_len { (length waiting.now ≡ length value.now) × (length busy.now ≡ length value.now) × (length landing.now ≡ length value.now) }
     ensures { result ≡ any_below (λ i. bad_register (base + i) (record {
-      value = get_or value.entry.now i 0;
+      value = get_or value.now i 0;
       waiting = get_or waiting.now i 0;
       busy = get_or busy.now i 0;
       landing = get_or landing.now i 0;
-    })) (length value.entry.now) }
+    })) (length value.now) }
 {
     let mut broken = false;
     for i in 0..value.len() {
@@ -43,9 +43,9 @@ fn bank_breaks<'a>(
 }
 
 // Whether the state's registers break a rule; its place is not looked at.
-pub fn bad_registers(s: State) -> bool
-    requires { Sized s }
-    ensures { result ≡ any_below (λ r. bad_register r (at (registers_of s) r)) 288 }
+pub fn bad_registers(s: &State) -> bool
+    requires { Sized s.now }
+    ensures { result ≡ any_below (λ r. bad_register r (at (registers_of s.now) r)) 288 }
 {
     bank_breaks(0, &s.value, &s.waiting, &s.busy, &s.landing)
         | bank_breaks(

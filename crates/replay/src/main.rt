@@ -2,8 +2,6 @@
 // second/README.md has the format. No contract can say what is read or written; what is called is proved.
 #![tactic(auto)]
 
-use libc::STDIN_FILENO;
-
 mod assembles;
 mod programs;
 mod results;
@@ -12,27 +10,33 @@ mod sources;
 mod stream;
 mod texts;
 
-fn main() {
+use std::io;
+use stream::{Stream, fill};
+
+fn main(rt: HostRuntime) -> io::Result<()> {
+    let stream = Stream {
+        input: rt.stdin(),
+        output: rt.stdout(),
+    };
     let mut header = [0u8; 32];
     // no loop is endless: a stream has at most this many requests
     for _ in 0..1_000_000_000u64 {
-        let got = io::read_full(STDIN_FILENO, &mut header);
-        if got != 32 {
-            return;
+        if !fill(stream, &mut header, 32)? {
+            return Ok(());
         }
-        let kind = header[3];
-        let more = match kind {
-            1 => results::answer(&header),
-            2 => programs::answer(&header, false),
-            3 => programs::answer(&header, true),
-            4 => runs::answer(&header),
-            5 => texts::answer(&header),
-            6 => assembles::answer(&header),
-            7 => sources::answer(&header),
+        let more = match header[3] {
+            1 => results::answer(stream, &header)?,
+            2 => programs::answer(stream, &header, false)?,
+            3 => programs::answer(stream, &header, true)?,
+            4 => runs::answer(stream, &header)?,
+            5 => texts::answer(stream, &header)?,
+            6 => assembles::answer(stream, &header)?,
+            7 => sources::answer(stream, &header)?,
             _ => false,
         };
         if !more {
-            return;
+            return Ok(());
         }
     }
+    Ok(())
 }

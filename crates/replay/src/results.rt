@@ -1,7 +1,8 @@
 // Kind 1: the value of every operation for s1, s2 and b, with s2 itself and with the immediate of a syllable.
 ghost use Rattle.std.specs.Prelude.{◌≡◌, ◌+◌, ◌≤◌, length};
 
-use crate::stream::write_bytes;
+use crate::stream::{Stream, write_bytes};
+use std::io;
 use word::number::{put_word, word_at};
 
 // The 64 opcodes' values, a word each.
@@ -57,11 +58,11 @@ fn perform(header: &[u8], answer: &mut [u8])
 }
 
 // Answers a request; false never, since it brings nothing after its header.
-pub fn answer(header: &[u8]) -> bool
+pub fn answer(stream: Stream, header: &[u8]) -> io::Result<bool>
     requires { length header.now ≡ 32 }
 {
     let mut words = [0u8; 552];
     perform(header, &mut words);
-    write_bytes(&words);
-    true
+    write_bytes(stream, &words)?;
+    Ok(true)
 }

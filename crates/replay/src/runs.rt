@@ -1,10 +1,12 @@
 // Kind 4: a call of run. Its six strings are read two by two.
 ghost use Rattle.std.specs.Prelude.{◌≡◌, length};
 
-use crate::stream::{fill, write_bytes, write_number};
+use crate::stream::{Stream, fill, write_bytes, write_number};
+use std::io;
 use word::number::word_at;
 
 fn run(
+    stream: Stream,
     table: &[u8],
     program: &[u8],
     state: &mut [u8],
@@ -12,22 +14,23 @@ fn run(
     landing: &[u8],
     n: u32,
     room: &mut [u8],
-) {
+) -> io::Result<()> {
     let number = sandbox::vex_run(table, program, state, memory, landing, n, room);
-    write_number(number);
-    write_bytes(room);
-    write_bytes(state);
-    write_bytes(memory);
+    write_number(stream, number)?;
+    write_bytes(stream, room)?;
+    write_bytes(stream, state)?;
+    write_bytes(stream, memory)
 }
 
 // Reads landing bytes and room, calls, and writes the number, the room, the state and the memory.
 fn with_memory(
+    stream: Stream,
     header: &[u8],
     table: &[u8],
     program: &[u8],
     state: &mut [u8],
     memory: &mut [u8],
-) -> bool
+) -> io::Result<bool>
     requires { length header.now ≡ 32 }
 {
     let mut landing = [0u8; 65536];
@@ -35,18 +38,19 @@ fn with_memory(
     let a = word_at(header, 20) as usize;
     let b = word_at(header, 28) as usize;
     if 65536 < a {
-        return false;
+        return Ok(false);
     }
     if 64 < b {
-        return false;
+        return Ok(false);
     }
-    if !fill(&mut landing, a) {
-        return false;
+    if !fill(stream, &mut landing, a)? {
+        return Ok(false);
     }
-    if !fill(&mut room, b) {
-        return false;
+    if !fill(stream, &mut room, b)? {
+        return Ok(false);
     }
     run(
+        stream,
         table,
         program,
         state,
@@ -54,12 +58,12 @@ fn with_memory(
         &landing[0..a],
         word_at(header, 24),
         &mut room[0..b],
-    );
-    true
+    )?;
+    Ok(true)
 }
 
 // Reads state and memory, then the rest.
-fn with_program(header: &[u8], table: &[u8], program: &[u8]) -> bool
+fn with_program(stream: Stream, header: &[u8], table: &[u8], program: &[u8]) -> io::Result<bool>
     requires { length header.now ≡ 32 }
 {
     let mut state = [0u8; 4096];
@@ -67,22 +71,29 @@ fn with_program(header: &[u8], table: &[u8], program: &[u8]) -> bool
     let a = word_at(header, 12) as usize;
     let b = word_at(header, 16) as usize;
     if 4096 < a {
-        return false;
+        return Ok(false);
     }
     if 65600 < b {
-        return false;
+        return Ok(false);
     }
-    if !fill(&mut state, a) {
-        return false;
+    if !fill(stream, &mut state, a)? {
+        return Ok(false);
     }
-    if !fill(&mut memory, b) {
-        return false;
+    if !fill(stream, &mut memory, b)? {
+        return Ok(false);
     }
-    with_memory(header, table, program, &mut state[0..a], &mut memory[0..b])
+    with_memory(
+        stream,
+        header,
+        table,
+        program,
+        &mut state[0..a],
+        &mut memory[0..b],
+    )
 }
 
 // Reads table and program, then the rest; false where the stream ended.
-pub fn answer(header: &[u8]) -> bool
+pub fn answer(stream: Stream, header: &[u8]) -> io::Result<bool>
     requires { length header.now ≡ 32 }
 {
     let mut table = [0u8; 64];
@@ -90,16 +101,16 @@ pub fn answer(header: &[u8]) -> bool
     let a = word_at(header, 4) as usize;
     let b = word_at(header, 8) as usize;
     if 64 < a {
-        return false;
+        return Ok(false);
     }
     if 16400 < b {
-        return false;
+        return Ok(false);
     }
-    if !fill(&mut table, a) {
-        return false;
+    if !fill(stream, &mut table, a)? {
+        return Ok(false);
     }
-    if !fill(&mut program, b) {
-        return false;
+    if !fill(stream, &mut program, b)? {
+        return Ok(false);
     }
-    with_program(header, &table[0..a], &program[0..b])
+    with_program(stream, header, &table[0..a], &program[0..b])
 }

@@ -1,33 +1,32 @@
 // Kind 7: a text for the program assemble.
 ghost use Rattle.std.specs.Prelude.{◌≡◌, length};
 
-use crate::stream::{fill, write_bytes, write_number};
+use crate::stream::{Stream, fill, write_bytes, write_number};
+use std::io;
 use word::number::word_at;
 
-fn print(input: &[u8]) {
+fn print(stream: Stream, input: &[u8]) -> io::Result<()> {
     let printed = assembly::print(input);
-    let bytes = printed.bytes;
-    let length = printed.length;
-    write_number(length as u32);
-    write_bytes(&bytes[0..length]);
+    write_number(stream, printed.length as u32)?;
+    write_bytes(stream, &printed.bytes[0..printed.length])
 }
 
 // Reads the input into a buffer, and writes the output's length and the output.
-fn perform(input: &mut [u8], n: usize) -> bool {
+fn perform(stream: Stream, input: &mut [u8], n: usize) -> io::Result<bool> {
     if input.len() < n {
-        return false;
+        return Ok(false);
     }
-    if !fill(input, n) {
-        return false;
+    if !fill(stream, input, n)? {
+        return Ok(false);
     }
-    print(&input[0..n]);
-    true
+    print(stream, &input[0..n])?;
+    Ok(true)
 }
 
 // Answers a request; false where the stream ended.
-pub fn answer(header: &[u8]) -> bool
+pub fn answer(stream: Stream, header: &[u8]) -> io::Result<bool>
     requires { length header.now ≡ 32 }
 {
     let mut input = [0u8; 300000];
-    perform(&mut input, word_at(header, 4) as usize)
+    perform(stream, &mut input, word_at(header, 4) as usize)
 }

@@ -66,7 +66,7 @@ pub loop_on : (d : Delays) (p landing m₀ m : List ℕ) {vs os rs ls gs xs ds p
     × (o ≡ after (k + 1) (run (step change (instruction_of d p)) (n - (k + 1)) (situation_at to.0 (views (k + 1) vs os rs ls) (beside m after-it) landing (used + taken))))
 loop_on d p landing m₀ m n k free i used taken link to until after-it from o r less took is went turned long room =
     let t = rw went at turned in
-    (omega arith, omega (arith, took, t.few), long, t.running, room, is ∙ turn_next _ n k from _ less t.is)
+    (omega arith, omega (arith, took, t.few), long, t.running, room, is ∙ turn_next (step change (instruction_of d p)) n k from _ less t.is)
 
 -- numbers of the loop, by themselves: beside all that it knows each is dear
 pub few_bytes : (n k used : ℕ) {taken free : ℕ} {d : Delays} {p landing vs os rs ls m : List ℕ} {to : Place} {link : Link} {s : Situation Memory Change}
@@ -86,7 +86,7 @@ pub loop_off : (d : Delays) (p landing : List ℕ) {vs os rs ls m : List ℕ} (n
     → Finished d p landing n s (record { ending = e; count = done; place = at; link = link }) vs os rs ls m
 loop_off d p landing n free e done at used link s from r less is went turned =
     let t = rw went at turned in
-    record { few = omega arith; bank = t.running.bank; start = t.running.start; low = t.running.low; used = used; is = is ∙ turn_last _ n done.0 from _ less e t.is }
+    record { few = omega arith; bank = t.running.bank; start = t.running.start; low = t.running.low; used = used; is = is ∙ turn_last (step change (instruction_of d p)) n done.0 from _ less e t.is }
 
 -- ---- the state that it leaves
 

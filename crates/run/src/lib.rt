@@ -141,8 +141,9 @@ pub fn run(
     let mut old = [0u32; 288];
     let mut ready = [0u64; 288];
     let mut land = [0u64; 288];
-    enter(s, &mut value, &mut old, &mut ready, &mut land);
+    let start = s.place;
     let place = s.link;
+    enter(s, &mut value, &mut old, &mut ready, &mut land);
     let link = Link {
         place,
         starts: is_start(program, place),
@@ -160,7 +161,7 @@ pub fn run(
         table.delays,
         n,
         free_from(&ready),
-        s.place,
+        start,
         link,
         &mut value,
         &mut old,

@@ -18,8 +18,8 @@ use tables::read;
 // Assembles a text: the syllables in the program, the answer in the room, and its number returned.
 #[unsafe(no_mangle)]
 pub extern "C" fn vex_assemble(text: &[u8], program: &mut [u8], room: &mut [u8]) -> u32
-    ensures* { λ r. ⌜ record { result = r; program = program.new; room = room.new }
-        ≡ assemble_outcome text.now program.old room.old ⌝ }
+    ensures { record { result = result; program = program.new; room = room.new }
+        ≡ assemble_outcome text.now program.old room.old }
 {
     assembler::assemble(text, program, room)
 }
@@ -27,8 +27,8 @@ pub extern "C" fn vex_assemble(text: &[u8], program: &mut [u8], room: &mut [u8])
 // Loads a program under a delay table: the answer in the room, and its number returned.
 #[unsafe(no_mangle)]
 pub extern "C" fn vex_load(table: &[u8], program: &[u8], room: &mut [u8]) -> u32
-    ensures* { λ r. ⌜ record { result = r; room = room.new }
-        ≡ load_outcome table.now program.now room.old ⌝ }
+    ensures { record { result = result; room = room.new }
+        ≡ load_outcome table.now program.now room.old }
 {
     let answer = answers::of_load(loader::load(table, program, room));
     answers::write(room, answer);
@@ -48,8 +48,8 @@ fn checked(table: &[u8], program: &[u8], room: &[u8]) -> Answer
 // Loads a program and checks its schedule: the answer in the room, and its number returned.
 #[unsafe(no_mangle)]
 pub extern "C" fn vex_check(table: &[u8], program: &[u8], room: &mut [u8]) -> u32
-    ensures* { λ r. ⌜ Checks table.now program.now room.old
-        (record { result = r; room = room.new }) ⌝ }
+    ensures { Checks table.now program.now room.old
+        (record { result = result; room = room.new }) }
 {
     let answer = checked(table, program, room);
     answers::write(room, answer);
@@ -67,16 +67,16 @@ pub extern "C" fn vex_run(
     n: u32,
     room: &mut [u8],
 ) -> u32
-    ensures* { λ r. ⌜ record { result = r; state = state.new; memory = memory.new; room = room.new }
+    ensures { record { result = result; state = state.new; memory = memory.new; room = room.new }
         ≡ run_outcome (record {
-          table = table.entry.now;
+          table = table.now;
           program = program.now;
           state = state.old;
           memory = memory.old;
           landing = landing.now;
           n = n;
           room = room.old;
-        }) ⌝ }
+        }) }
 {
     let answer = of_reply(call(table, program, state, memory, landing, n, room));
     answers::write(room, answer);

@@ -47,7 +47,7 @@ fn ran(
     requires bounds { Bounds (table_of table.now) × Passed (table_of table.now) (words program.now) }
     requires program_len_bound { (length program.now ≤ 16384) × (length state.old ≡ 2888) }
     ensures { (room : List ℕ) → record { reply = result; state = state.new; memory = memory.new } ≡ done_by Good (record {
-      table = table.entry.now;
+      table = table.now;
       program = program.now;
       state = state.old;
       memory = memory.old;
@@ -60,15 +60,15 @@ fn ran(
     if !is_start(program, s.place) {
         return Reply::BadState;
     }
-    if bad_registers(s) {
+    if bad_registers(&s) {
         return Reply::BadState;
     }
     let r = run(read(table), program, memory, landing, Count(n as u64), s);
     let ending = r.ending;
     let count = r.count;
     let left = r.state;
-    image::write(state, left);
     let place = left.place;
+    image::write(state, left);
     Reply::Ended(ending, count, place)
 }
 
@@ -83,7 +83,7 @@ pub fn call(
     room: &[u8],
 ) -> Reply
     ensures { record { reply = result; state = state.new; memory = memory.new } ≡ done_of (record {
-      table = table.entry.now;
+      table = table.now;
       program = program.now;
       state = state.old;
       memory = memory.old;

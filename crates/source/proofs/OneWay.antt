@@ -25,6 +25,10 @@ one_line line (unread g) (unread h) d e = ap unread (same_begin line g h d.1 e.1
 
 pub one_text : (ls : List (List ℕ)) (rs ss : List Reading) → ReadAll ls rs → ReadAll ls ss → rs ≡ ss
 one_text [] [] [] end end = refl
+one_text [] [] (s ∷ ss) _ x = elim x [ ]
+one_text [] (r ∷ rs) ss x _ = elim x [ ]
+one_text (l ∷ ls) [] ss x _ = elim x [ ]
+one_text (l ∷ ls) (r ∷ rs) [] _ x = elim x [ ]
 one_text (l ∷ ls) (r ∷ rs) (s ∷ ss) (first p ps) (first q qs) = ap₂ (λ x xs. x ∷ xs) (one_line l r s p q) (one_text ls rs ss ps qs)
 
 pub all_read : (ls : List (List ℕ)) → ReadAll ls (map read_line ls)

@@ -78,9 +78,9 @@ fn put_one(
     ensures bank { Bank t.0 value.new old.new ready.new land.new }
     ensures freed { (free : ℕ) → (0 < b → t.0 + b ≤ free) → Freed t.0 free ready.old → Freed t.0 free ready.new }
     ensures elsewhere { (q : ℕ) → q ≢ r → get_or land.new q 0 ≡ get_or land.old q 0 }
-    ensures* is { λ _. ⌜ views t.0 value.new old.new ready.new land.new
+    ensures is { views t.0 value.new old.new ready.new land.new
         ≡ put (record { reg = r; result = v; busy = b; landing = l })
-        (views t.0 value.old old.old ready.old land.old) ⌝ }
+        (views t.0 value.old old.old ready.old land.old) }
 {
     let i = r as usize;
     old[i] = made(value, r);
@@ -128,9 +128,9 @@ fn commit_one(
     ensures bank { Bank t.0 value.new old.new ready.new land.new }
     ensures freed { Freed t.0 result.0 ready.new }
     ensures elsewhere { (q : ℕ) → q ≢ r → get_or land.new q 0 ≡ get_or land.old q 0 }
-    ensures* is { λ _. ⌜ views t.0 value.new old.new ready.new land.new
+    ensures is { views t.0 value.new old.new ready.new land.new
         ≡ put (record { reg = r; result = v; busy = l - 1; landing = choose l (drop i landing.now) })
-        (views t.0 value.old old.old ready.old land.old) ⌝ }
+        (views t.0 value.old old.old ready.old land.old) }
 {
     let d = chosen(landing, i, l);
     put_one(value, old, ready, land, r, v, l - 1, d, t);
@@ -200,9 +200,9 @@ fn commit_full(
     ensures bank { Bank t.0 value.new old.new ready.new land.new }
     ensures freed { Freed t.0 result.0 ready.new }
     ensures elsewhere { (q : ℕ) → q ≢ r → get_or land.new q 0 ≡ get_or land.old q 0 }
-    ensures* is { λ _. ⌜ views t.0 value.new old.new ready.new land.new
+    ensures is { views t.0 value.new old.new ready.new land.new
         ≡ put (record { reg = r; result = v; busy = l - 1; landing = l - 1 })
-        (views t.0 value.old old.old ready.old land.old) ⌝ }
+        (views t.0 value.old old.old ready.old land.old) }
 {
     put_one(value, old, ready, land, r, v, l - 1, l - 1, t);
     later(free, Count(t.0 + (l - 1)))
@@ -319,8 +319,8 @@ fn enter_one(
     requires i_bound { i < 288 }
     requires w_value { l ≡ 0 → w ≡ 0 }
     ensures sizes { Sizes 288 value.new old.new ready.new land.new }
-    ensures is { views 0 value.exit.now old.new ready.new land.new
-        ≡ set (views 0 value.entry.now old.old ready.old land.old)
+    ensures is { views 0 value.new old.new ready.new land.new
+        ≡ set (views 0 value.old old.old ready.old land.old)
         i (record { value = v; waiting = w; busy = b; landing = l }) }
 {
     value[i] = landed(v, w, l);

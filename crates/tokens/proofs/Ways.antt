@@ -1,5 +1,5 @@
 -- How tokens are written, and the function that finds them, agree.
-use mathlib.Core.Path.{◌≡◌, refl, sym, ap, ◌∙◌}
+use mathlib.Core.Path.{◌≡◌, refl, sym, subst, ap, ◌∙◌}
 use mathlib.Core.Bool.{Bool, true, false, true≢false}
 use mathlib.Core.List.{List, [], ◌∷◌, ◌++◌}
 use Prim.Native.Nat.{ℕ}
@@ -44,7 +44,7 @@ one_more b e f end = absurd (true≢false (sym f))
 one_more b e f comment = absurd (true≢false (sym (on_starts b 35 f)))
 one_more b e f (blank {b = c} p h) = absurd (never_both (on_starts b c f) (blank_starts_none c p))
 one_more b e f (mark {b = c} p q r h) = absurd (never_both (on_starts b c f) p)
-one_more b e f (word {b = c} {w} {s = s} p q r h) = let k = on_same b c f in word {b = b} {w = c ∷ w} {s = s} e (rw (f, ← k) q) (rw k at r) h
+one_more b e f (word {b = c} {w} {s = s} p q r h) = let k = on_same b c f in word {b = b} {w = c ∷ w} {s = s} e (rw f (subst (λ (g : ℕ → Bool). every g w ≡ true) k q)) (rw k at r) h
 
 pub written : (s : List ℕ) → Written (tokens s) s
 unfolding tokens

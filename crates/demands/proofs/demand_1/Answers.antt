@@ -1,0 +1,5 @@
+use Rattle.demands.proofs.Demand1.{demand_1}
+use Rattle.demands.proofs.demand_1.Goals as goal
+
+pub returns : goal.returns
+returns c = demand_1
