@@ -1,14 +1,8 @@
 -- After r turns the lines of the first r registers are put.
 use borrow.Author.Rules.{rules}
 use mathlib.Core.Path.{◌≡◌, refl, ◌∙◌}
-use mathlib.Core.List.{List}
-use Prim.Native.Nat.{ℕ, ◌+◌, ◌*◌, ◌-◌, ◌≤◌, ◌<◌}
 use native.Mathlib.Omega.{arith}
-use lib.ListN.{length}
-use lib.Seq.{sets}
-use Rattle.vliw.specs.Cell.{landed}
-use Rattle.machine.specs.Image.{cell_in}
-use Rattle.text.specs.Rows.{index_of, register_row, each, cluster_rows}
+use Rattle.text.specs.Rows.{cluster_rows}
 use Rattle.text.proofs.Puts.{each_none, each_put, each_next}
 use Rattle.text.proofs.registers.put_cluster.Goals as goal
 use Rattle.text.proofs.registers.put_cluster.Invariants.{line}

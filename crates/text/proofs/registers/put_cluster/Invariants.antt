@@ -1,14 +1,11 @@
-use borrow.Author.Rules.{rules}
-use mathlib.Core.Path.{◌≡◌, refl, ◌∙◌}
+use mathlib.Core.Path.{◌≡◌}
 use mathlib.Core.List.{List}
 use Prim.Native.Nat.{ℕ, ◌+◌, ◌*◌, ◌-◌, ◌≤◌, ◌<◌}
-use native.Mathlib.Omega.{arith}
 use lib.ListN.{length}
 use lib.Seq.{sets}
 use Rattle.vliw.specs.Cell.{landed}
 use Rattle.machine.specs.Image.{cell_in}
-use Rattle.text.specs.Rows.{index_of, register_row, each, cluster_rows}
-use Rattle.text.proofs.Puts.{each_none, each_put, each_next}
+use Rattle.text.specs.Rows.{index_of, register_row, each}
 use Rattle.text.proofs.registers.put_cluster.Given as goal
 
 abbrev pub line : List ℕ → ℕ → ℕ → List ℕ

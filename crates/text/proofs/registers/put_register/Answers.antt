@@ -1,6 +1,5 @@
-use mathlib.Core.Path.{refl}
 use native.Mathlib.Omega.{arith}
-use Rattle.text.proofs.Puts.{silent, shown, fields_length}
+use Rattle.text.proofs.Puts.{shown, fields_length}
 use Rattle.text.proofs.registers.put_register.Goals as goal
 
 pub returns : goal.returns

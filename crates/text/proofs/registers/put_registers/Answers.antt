@@ -1,11 +1,8 @@
 -- After c turns the lines of the first c clusters are put.
 use borrow.Author.Rules.{rules}
 use mathlib.Core.Path.{◌≡◌, refl, ◌∙◌}
-use Prim.Native.Nat.{◌+◌, ◌*◌, ◌-◌, ◌≤◌}
 use native.Mathlib.Omega.{arith}
-use lib.ListN.{length}
-use lib.Seq.{sets}
-use Rattle.text.specs.Rows.{each, cluster_rows, register_rows}
+use Rattle.text.specs.Rows.{cluster_rows, register_rows}
 use Rattle.text.proofs.Puts.{each_none, each_put, each_next}
 use Rattle.text.proofs.registers.put_registers.Goals as goal
 

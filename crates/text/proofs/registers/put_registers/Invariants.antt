@@ -1,11 +1,8 @@
-use borrow.Author.Rules.{rules}
-use mathlib.Core.Path.{◌≡◌, refl, ◌∙◌}
+use mathlib.Core.Path.{◌≡◌}
 use Prim.Native.Nat.{◌+◌, ◌*◌, ◌-◌, ◌≤◌}
-use native.Mathlib.Omega.{arith}
 use lib.ListN.{length}
 use lib.Seq.{sets}
-use Rattle.text.specs.Rows.{each, cluster_rows, register_rows}
-use Rattle.text.proofs.Puts.{each_none, each_put, each_next}
+use Rattle.text.specs.Rows.{each, cluster_rows}
 use Rattle.text.proofs.registers.put_registers.Given as goal
 
 abbrev pub invariant-loop-c : goal.invariant-loop-c

@@ -1,11 +1,7 @@
 -- What is still to be put, over what was put, is the whole number.
-use mathlib.Core.Path.{◌≡◌, refl, ◌∙◌}
-use Prim.Native.Nat.{◌+◌, ◌≤◌}
-use native.Mathlib.Nat.{mod-lt, zero-lt-suc}
+use mathlib.Core.Path.{◌∙◌}
 use native.Mathlib.Omega.{arith}
-use lib.ListN.{length, length-set}
-use lib.Seq.{sets}
-use Rattle.lines.specs.Digits.{hex}
+use lib.ListN.{length-set}
 use Rattle.text.proofs.Puts.{digit_first}
 use Rattle.text.proofs.rows.put_hex.Goals as goal
 

@@ -1,11 +1,8 @@
-use mathlib.Core.Path.{◌≡◌, refl, ◌∙◌}
+use mathlib.Core.Path.{◌≡◌}
 use Prim.Native.Nat.{◌+◌, ◌≤◌}
-use native.Mathlib.Nat.{mod-lt, zero-lt-suc}
-use native.Mathlib.Omega.{arith}
-use lib.ListN.{length, length-set}
+use lib.ListN.{length}
 use lib.Seq.{sets}
 use Rattle.lines.specs.Digits.{hex}
-use Rattle.text.proofs.Puts.{digit_first}
 use Rattle.text.proofs.rows.put_hex.Given as goal
 
 abbrev pub invariant-loop-left : goal.invariant-loop-left

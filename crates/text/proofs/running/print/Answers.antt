@@ -1,4 +1,4 @@
-use Rattle.text.proofs.Outputs.{too_long, as_read, kept}
+use Rattle.text.proofs.Outputs.{too_long, as_read}
 use Rattle.text.proofs.running.print.Goals as goal
 
 pub returns-then-input-gt32768 : goal.returns-then-input-gt32768
