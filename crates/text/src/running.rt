@@ -54,8 +54,8 @@ fn refused(out: &mut [u8], table: &[u8], program: &[u8]) -> usize
 // Line 1, and the registers if the run paused or stopped.
 fn ended(out: &mut [u8], number: u32, image: &[u8], room: &[u8]) -> usize
     requires { (length out.old ≡ 4341) × (length image.now ≡ 2888) × (length room.now ≡ 12) }
-    ensures* { λ r. ⌜ Put out.old out.new r
-        (printed_of (Runs (record { result = number; state = image.now; memory = []; room = room.now }))) ⌝ }
+    ensures { Put out.old out.new result
+        (printed_of (Runs (record { result = number; state = image.now; memory = []; room = room.now }))) }
 {
     let a = Answer {
         number,
@@ -76,7 +76,7 @@ fn ended(out: &mut [u8], number: u32, image: &[u8], room: &[u8]) -> usize
 fn ran(out: &mut [u8], table: &[u8], program: &[u8], memory: usize, n: u32) -> usize
     requires { (length out.old ≡ 4341) × (memory ≤ 16384) }
     ensures { Put out.old out.new result
-        (printed_of (Runs (run_outcome (call_of (record { table = table.entry.now; memory = memory; n = n; program = program.now }))))) }
+        (printed_of (Runs (run_outcome (call_of (record { table = table.now; memory = memory; n = n; program = program.now }))))) }
 {
     let mut image = [0u8; 2888];
     let mut bytes = [0u8; 16384];

@@ -1,5 +1,4 @@
-use borrow.Author.Rules.{rules}
-use mathlib.Core.Path.{◌≡◌, refl, sym, ap, ◌∙◌}
+use mathlib.Core.Path.{◌≡◌, refl, ap, ◌∙◌}
 use mathlib.Core.Bool.{Bool, true, false}
 use mathlib.Core.List.{List}
 use Prim.Native.Nat.{ℕ}
@@ -13,8 +12,7 @@ use Rattle.loader.specs.declared.Loaded.TheVariants.{Good, Refused}
 use Rattle.loader.specs.declared.Refusal.TheVariants.{ProgramLength, MemoryLength}
 use Rattle.text.specs.Output.{too_much, printed_of}
 use Rattle.text.proofs.Outputs.{alone}
-use Rattle.text.proofs.running.refused.Statement.{statement}
-use Rattle.text.proofs.running.refused.Tie as tie
+use Rattle.text.proofs.running.refused.Goals as goal
 
 -- a memory that is too long is always refused
 never-good : (t : Bool) → refused_if t ProgramLength otherwise Refused MemoryLength ≡ Good → ⊥
@@ -25,39 +23,8 @@ answered : (table program : List ℕ) {a : Answer} {s l : Loaded} → s ≡ refu
     → l ≡ loaded_with s table program → a ≡ load_answer l → a ≡ load_answer (too_much table program)
 answered table program e f g = g ∙ ap load_answer (f ∙ ap (λ (x : Loaded). loaded_with x table program) e)
 
-sizes-requires : tie.Need-sizes-requires
-sizes-requires c κs = search rules
-
-load-with-requires : tie.Need-load-with-requires
-load-with-requires c κs = λ g. absurd (never-good (bad_program_length c.before.before.before.before.before.args.program.now) (sym c.sizes.ensures ∙ g))
-
-of-load-requires : tie.Need-of-load-requires
-of-load-requires c κs = search rules
-
-put-answer-requires : tie.Need-put-answer-requires
-put-answer-requires c κs = search rules
-
-same_length : tie.Need-same-length
-same_length c = search rules
-
-returns : tie.Need-returns
+pub returns : goal.returns
 unfolding printed_of
 returns c =
-    let p = c.before.before in
-    let l = p.before.before in
-    let z = l.before in
-    let a = z.before.before.before.before.before.args in
-    let e = answered a.table.now a.program.now z.sizes.ensures l.load-with.ensures p.before.of-load.ensures in
-    let r = p.before.of-load.result in
-    rw (← e) (alone a.out.now r.number {c = r.count} {p = r.place} refl refl p.put-answer.ensures)
-
-pub refused-spec : {M : Type 1} → statement M
-refused-spec =
-    tie.close
-    (tie.spec
-    sizes-requires
-    load-with-requires
-    of-load-requires
-    put-answer-requires
-    same_length
-    returns)
+    let e = answered c.args.table.now c.args.program.now c.sizes.ensures c.load_with.ensures c.of_load.ensures in
+    rw (← e) (alone c.args.out.now c.of_load.result.number {c = c.of_load.result.count} {p = c.of_load.result.place} refl refl c.put_answer.ensures)
