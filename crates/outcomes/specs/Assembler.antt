@@ -1,5 +1,5 @@
 -- Written by tests/public. The promise of each public function of assembler admits one outcome only.
-use Rattle.std.specs.Prelude.{List, ◌≡◌, ℕ, length}
+use Rattle.std.specs.Prelude.{List, length, ℕ, ◌≡◌}
 use Rattle.source.specs.Reader.{hear_all}
 use Rattle.evaluation.specs.declared.labels.Known.{Known}
 use Rattle.assembler.specs.Answer.{assemble_outcome}

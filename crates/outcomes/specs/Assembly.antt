@@ -1,5 +1,5 @@
 -- Written by tests/public. The promise of each public function of assembly admits one outcome only.
-use Rattle.std.specs.Prelude.{List, ◌≡◌, ◌≤◌, ℕ, length}
+use Rattle.std.specs.Prelude.{List, length, ℕ, ◌≡◌, ◌≤◌}
 use Rattle.assembly.specs.Printed.{printed_in}
 use Rattle.assembly.specs.declared.Printed.{Printed}
 use Rattle.outcomes.specs.OneOutcome.{OneOutcome}

@@ -7,4 +7,4 @@ use Rattle.outcomes.specs.OneOutcome.{OneOutcome}
 
 pub record Call : Type 0 where
   -- crates/call/src/replies.rt
-  pub of_reply_one : (r : Reply) → OneOutcome (λ (a : Answer). a ≡ reply_answer r)
+  pub of_reply_one : (r : Reply) → OneOutcome (λ (s : Answer). s ≡ reply_answer r)

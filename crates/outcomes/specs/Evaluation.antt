@@ -1,5 +1,5 @@
 -- Written by tests/public. The promise of each public function of evaluation admits one outcome only.
-use Rattle.std.specs.Prelude.{List, ◌≡◌, ℕ}
+use Rattle.std.specs.Prelude.{List, ℕ, ◌≡◌}
 use Rattle.values.specs.declared.Value.{Value}
 use Rattle.operations.specs.Meaning.{syllable_of}
 use Rattle.operations.specs.Parsed.{said_by}

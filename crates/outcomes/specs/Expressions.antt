@@ -1,5 +1,5 @@
 -- Written by tests/public. The promise of each public function of expressions admits one outcome only.
-use Rattle.std.specs.Prelude.{Bool, List, ◌≡◌, ℕ}
+use Rattle.std.specs.Prelude.{Bool, List, ℕ, ◌≡◌}
 use Rattle.expressions.specs.Grammar.{is_label, is_number}
 use Rattle.outcomes.specs.OneOutcome.{OneOutcome}
 

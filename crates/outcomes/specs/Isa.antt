@@ -1,5 +1,5 @@
 -- Written by tests/public. The promise of each public function of isa admits one outcome only.
-use Rattle.std.specs.Prelude.{Bool, ◌&&◌, ◌||◌, List, map, ◌≡◌, ◌+◌, ◌-◌, ℕ, eqb, get_or}
+use Rattle.std.specs.Prelude.{Bool, List, eqb, get_or, map, ℕ, ◌&&◌, ◌+◌, ◌-◌, ◌||◌, ◌≡◌}
 use Rattle.word.specs.Bytes.{words}
 use Rattle.word.specs.Choice.{bit}
 use Rattle.isa.specs.Control.{controls, is_control, leaves, reads_every, solitary, target_of, turn_of, way_of}
@@ -40,7 +40,7 @@ pub record Isa : Type 0 where
   pub compute_one : (c s : ℕ) → OneOutcome (λ (r : Op). r ≡ decode c s)
   pub access_one : (c s : ℕ) → OneOutcome (λ (r : Op). r ≡ decode c s)
   pub copy_one : (c s : ℕ) → OneOutcome (λ (r : Op). r ≡ decode c s)
-  pub decode_still_one : (s : ℕ) → OneOutcome (λ (r : Op). ((c : ℕ) → r ≡ decode c s))
+  pub decode_still_one : (s : ℕ) → OneOutcome (λ (r : Op). (c : ℕ) → r ≡ decode c s)
   pub jump_one : (c s : ℕ) → OneOutcome (λ (r : Op). r ≡ decode c s)
   pub decode_one : (c s : ℕ) → OneOutcome (λ (r : Op). r ≡ decode c s)
   pub destinations_one : (c s : ℕ) → OneOutcome (λ (r : Destinations). r ≡ record { t = (decode c s).t; carry = (decode c s).carry })

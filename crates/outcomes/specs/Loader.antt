@@ -1,5 +1,5 @@
 -- Written by tests/public. The promise of each public function of loader admits one outcome only.
-use Rattle.std.specs.Prelude.{Bool, List, ◌≡◌, ℕ}
+use Rattle.std.specs.Prelude.{Bool, List, ℕ, ◌≡◌}
 use Rattle.refusals.specs.Broken.{bad_program_length}
 use Rattle.loader.specs.Answer.{load_answer, refusal_answer, room_with}
 use Rattle.loader.specs.Load.{loaded_of, loaded_with}
@@ -14,6 +14,6 @@ pub record Loader : Type 0 where
   pub load_one : (table program room : List ℕ) → OneOutcome (λ (r : Loaded). r ≡ loaded_of table program room)
   pub load_with_one : (sizes : Loaded) (table program : List ℕ) → OneOutcome (λ (r : Loaded). r ≡ loaded_with sizes table program)
   -- crates/loader/src/answers.rt
-  pub of_refusal_one : (r : Refusal) → OneOutcome (λ (a : Answer). a ≡ refusal_answer r)
-  pub of_load_one : (l : Loaded) → OneOutcome (λ (a : Answer). a ≡ load_answer l)
+  pub of_refusal_one : (r : Refusal) → OneOutcome (λ (s : Answer). s ≡ refusal_answer r)
+  pub of_load_one : (l : Loaded) → OneOutcome (λ (r : Answer). r ≡ load_answer l)
   pub write_one : (room : List ℕ) (a : Answer) → OneOutcome (λ (room' : List ℕ). room' ≡ room_with a room)

@@ -1,5 +1,5 @@
 -- Written by tests/public. The promise of each public function of memory admits one outcome only.
-use Rattle.std.specs.Prelude.{Bool, List, ◌≡◌, ℕ, set}
+use Rattle.std.specs.Prelude.{Bool, List, set, ℕ, ◌≡◌}
 use Rattle.word.specs.Bytes.{number_at}
 use Rattle.vliw.specs.Machine.{stores}
 use Rattle.ops.specs.Value.{loaded}
@@ -19,4 +19,4 @@ pub record Memory : Type 0 where
   pub store_all_one : (memory offsets contents sizes : List ℕ) (count : ℕ)
       → OneOutcome (λ (memory' : List ℕ).
       memory' ≡ stores store (stores_in offsets contents sizes count) memory)
-  pub shared_one : (offsets sizes : List ℕ) (count : ℕ) → OneOutcome (λ (r : Bool). ((vs : List ℕ) → r ≡ any_share (stores_in offsets vs sizes count)))
+  pub shared_one : (offsets sizes : List ℕ) (count : ℕ) → OneOutcome (λ (r : Bool). (vs : List ℕ) → r ≡ any_share (stores_in offsets vs sizes count))

@@ -1,5 +1,5 @@
 -- Written by tests/public. The promise of each public function of ops admits one outcome only.
-use Rattle.std.specs.Prelude.{◌≡◌, ℕ}
+use Rattle.std.specs.Prelude.{ℕ, ◌≡◌}
 use Rattle.ops.specs.Value.{address, carry, loaded, stored, value}
 use Rattle.outcomes.specs.OneOutcome.{OneOutcome}
 

@@ -1,4 +1,5 @@
 -- Written by tests/public. The promise of every public function admits one outcome only; docs/PUBLIC.md lists them, and the exceptions.
+use Rattle.std.specs.Prelude.{⊤}
 use Rattle.outcomes.specs.OneOutcome.{OneOutcome}
 use Rattle.outcomes.specs.Word.{Word}
 use Rattle.outcomes.specs.Ops.{Ops}
@@ -45,4 +46,4 @@ pub record Public : Type 0 where
   pub text : Text
   pub assembly : Assembly
   -- a function that returns nothing and changes nothing has one outcome, even if it promises nothing
-  pub nothing : OneOutcome (λ (o : record {}). Unit)
+  pub nothing : OneOutcome (λ (o : record {}). ⊤)

@@ -1,5 +1,5 @@
 -- Written by tests/public. The promise of each public function of refusals admits one outcome only.
-use Rattle.std.specs.Prelude.{List, ◌≡◌, ℕ, length}
+use Rattle.std.specs.Prelude.{List, length, ℕ, ◌≡◌}
 use Rattle.word.specs.Bytes.{words}
 use Rattle.isa.specs.Lowest.{lowest}
 use Rattle.isa.specs.declared.Found.{Found}

@@ -1,5 +1,5 @@
 -- Written by tests/public. The promise of each public function of run admits one outcome only.
-use Rattle.std.specs.Prelude.{true, List, ◌≡◌, ◌<◌, ◌^◌, ℕ}
+use Rattle.std.specs.Prelude.{List, true, ℕ, ◌<◌, ◌^◌, ◌≡◌}
 use Rattle.word.specs.Bytes.{words}
 use Rattle.vliw.specs.Machine.{in_order, step}
 use Rattle.vliw.specs.Run.{run}

@@ -1,5 +1,5 @@
 -- Written by tests/public. The promise of each public function of sandbox admits one outcome only.
-use Rattle.std.specs.Prelude.{List, ◌≡◌, ℕ}
+use Rattle.std.specs.Prelude.{List, ℕ, ◌≡◌}
 use Rattle.loader.specs.Answer.{load_outcome}
 use Rattle.schedule.specs.Answer.{Checks}
 use Rattle.assembler.specs.Answer.{assemble_outcome}

@@ -1,5 +1,5 @@
 -- Written by tests/public. The promise of each public function of schedule admits one outcome only.
-use Rattle.std.specs.Prelude.{List, ◌≡◌, ℕ}
+use Rattle.std.specs.Prelude.{List, ℕ, ◌≡◌}
 use Rattle.word.specs.Bytes.{words}
 use Rattle.isa.specs.declared.Table.{Table}
 use Rattle.loader.specs.declared.Answer.{Answer}
@@ -12,4 +12,4 @@ pub record Schedule : Type 0 where
   -- crates/schedule/src/lib.rt
   pub check_one : (table : Table) (program : List ℕ) → OneOutcome (λ (r : Verdict). Says table.delays (words program) r)
   -- crates/schedule/src/answers.rt
-  pub of_verdict_one : (v : Verdict) → OneOutcome (λ (a : Answer). a ≡ verdict_answer v)
+  pub of_verdict_one : (v : Verdict) → OneOutcome (λ (r : Answer). r ≡ verdict_answer v)

@@ -1,5 +1,5 @@
 -- Written by tests/public. The promise of each public function of source admits one outcome only.
-use Rattle.std.specs.Prelude.{Bool, false, List, ◌≡◌, ◌+◌, ◌≤◌, ℕ, drop}
+use Rattle.std.specs.Prelude.{Bool, List, drop, false, ℕ, ◌+◌, ◌≡◌, ◌≤◌}
 use Rattle.tokens.specs.Tokens.{same}
 use Rattle.source.specs.Grammar.{lines_of}
 use Rattle.source.specs.Labels.{gives as gives_name}
@@ -12,15 +12,15 @@ use Rattle.outcomes.specs.OneOutcome.{OneOutcome}
 
 pub record Source : Type 0 where
   -- crates/source/src/reading.rt
-  pub line_length_one : (s : List ℕ) → OneOutcome (λ (n : ℕ). Cut s n)
+  pub line_length_one : (s : List ℕ) → OneOutcome (λ (r : ℕ). Cut s r)
   pub is_same_one : (a b : List ℕ) → OneOutcome (λ (r : Bool). r ≡ same a b)
   pub gives_one : (line : List ℕ) (l : Line) (name : List ℕ) → OneOutcome (λ (r : Bool). r ≡ gives_name name (heard_in line l))
   -- crates/source/src/walking.rt
-  pub is_refused_one : (w : Walk) (l : Line) → OneOutcome (λ (r : Bool). ((line : List ℕ) → r ≡ refused (walk_of w) (heard_in line l)))
+  pub is_refused_one : (w : Walk) (l : Line) → OneOutcome (λ (r : Bool). (line : List ℕ) → r ≡ refused (walk_of w) (heard_in line l))
   pub step_one : (w : Walk) (l : Line)
       → OneOutcome (λ (r : Walk).
-      ((line : List ℕ) → walk_of r ≡ step_by (walk_of w) (heard_in line l)) × (w.count ≤ r.count) × (r.count ≤ w.count + 4) × (l.operates ≡ false
-      → r.count ≡ w.count))
+      ((line : List ℕ) → walk_of r ≡ step_by (walk_of w) (heard_in line l)) × (w.count ≤ r.count) × (r.count ≤ w.count + 4) × (l.operates ≡ false → r.count
+      ≡ w.count))
   -- crates/source/src/seeking.rt
   pub search_one : (text : List ℕ) (from : ℕ) (w : Walk) (name : List ℕ)
       → OneOutcome (λ (r : Seen).

@@ -1,5 +1,5 @@
 -- Written by tests/public. The promise of each public function of tables admits one outcome only.
-use Rattle.std.specs.Prelude.{Bool, List, ◌≡◌, ℕ}
+use Rattle.std.specs.Prelude.{Bool, List, ℕ, ◌≡◌}
 use Rattle.isa.specs.declared.Table.{Table}
 use Rattle.tables.specs.Table.{bad_table, table_of}
 use Rattle.outcomes.specs.OneOutcome.{OneOutcome}

@@ -1,5 +1,5 @@
 -- Written by tests/public. The promise of each public function of text admits one outcome only.
-use Rattle.std.specs.Prelude.{List, ◌≡◌, ◌≤◌, ℕ, length}
+use Rattle.std.specs.Prelude.{List, length, ℕ, ◌≡◌, ◌≤◌}
 use Rattle.std.proofs.lemmas.List.Edits.{sets}
 use Rattle.loader.specs.declared.Answer.{Answer}
 use Rattle.text.specs.Output.{shown_of}

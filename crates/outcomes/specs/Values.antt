@@ -1,5 +1,5 @@
 -- Written by tests/public. The promise of each public function of values admits one outcome only.
-use Rattle.std.specs.Prelude.{List, ◌≡◌, ℕ}
+use Rattle.std.specs.Prelude.{List, ℕ, ◌≡◌}
 use Rattle.values.specs.Values.{add, both, decimal, mul, sub}
 use Rattle.values.specs.declared.Value.{Value}
 use Rattle.outcomes.specs.OneOutcome.{OneOutcome}

@@ -1,5 +1,5 @@
 -- Written by tests/public. The promise of each public function of word admits one outcome only.
-use Rattle.std.specs.Prelude.{List, ◌≡◌, ◌<◌, ℕ}
+use Rattle.std.specs.Prelude.{List, ℕ, ◌<◌, ◌≡◌}
 use Rattle.word.specs.Bytes.{number_at, put_number, put_word, word_at}
 use Rattle.outcomes.specs.OneOutcome.{OneOutcome}
 

@@ -1,5 +1,5 @@
 -- Written by tests/public. The promise of each public function of zero admits one outcome only.
-use Rattle.std.specs.Prelude.{Bool, ◌≡◌, ℕ}
+use Rattle.std.specs.Prelude.{Bool, ℕ, ◌≡◌}
 use Rattle.zero.specs.Zero.{bad_bits}
 use Rattle.outcomes.specs.OneOutcome.{OneOutcome}
 

@@ -1,4 +1,4 @@
-// What a host calls: extern "C" entries on numbers and byte slices. Each tests what it takes, and none asks anything of its caller.
+// What a host calls: entries on numbers and byte slices, which sandbox_c exports to C. Each tests what it takes, and none asks anything of its caller.
 #![tactic(auto)]
 
 ghost use Rattle.std.specs.Prelude.{◌≡◌};
@@ -16,8 +16,7 @@ use schedule::answers::of_verdict;
 use tables::read;
 
 // Assembles a text: the syllables in the program, the answer in the room, and its number returned.
-#[unsafe(no_mangle)]
-pub extern "C" fn vex_assemble(text: &[u8], program: &mut [u8], room: &mut [u8]) -> u32
+pub fn vex_assemble(text: &[u8], program: &mut [u8], room: &mut [u8]) -> u32
     ensures { record { result = result; program = program.new; room = room.new }
         ≡ assemble_outcome text.now program.old room.old }
 {
@@ -25,8 +24,7 @@ pub extern "C" fn vex_assemble(text: &[u8], program: &mut [u8], room: &mut [u8])
 }
 
 // Loads a program under a delay table: the answer in the room, and its number returned.
-#[unsafe(no_mangle)]
-pub extern "C" fn vex_load(table: &[u8], program: &[u8], room: &mut [u8]) -> u32
+pub fn vex_load(table: &[u8], program: &[u8], room: &mut [u8]) -> u32
     ensures { record { result = result; room = room.new }
         ≡ load_outcome table.now program.now room.old }
 {
@@ -46,8 +44,7 @@ fn checked(table: &[u8], program: &[u8], room: &[u8]) -> Answer
 }
 
 // Loads a program and checks its schedule: the answer in the room, and its number returned.
-#[unsafe(no_mangle)]
-pub extern "C" fn vex_check(table: &[u8], program: &[u8], room: &mut [u8]) -> u32
+pub fn vex_check(table: &[u8], program: &[u8], room: &mut [u8]) -> u32
     ensures { Checks table.now program.now room.old
         (record { result = result; room = room.new }) }
 {
@@ -57,8 +54,7 @@ pub extern "C" fn vex_check(table: &[u8], program: &[u8], room: &mut [u8]) -> u3
 }
 
 // Runs at most n instructions of a program, from the state that the image holds: the answer in the room, and its number returned.
-#[unsafe(no_mangle)]
-pub extern "C" fn vex_run(
+pub fn vex_run(
     table: &[u8],
     program: &[u8],
     state: &mut [u8],
