@@ -1,5 +1,4 @@
 -- Written by tests/public. Two outcomes that meet an equation are equal.
-use mathlib.Core.Path.{◌∙◌, sym}
 use Rattle.outcomes.specs.Run.{Run}
 use Rattle.outcomes.proofs.ByHand.{run_run_one}
 
