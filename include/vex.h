@@ -17,11 +17,11 @@
  * state and memory.
  *
  * Cost. Load, check and run test table and program from the beginning: about 10 microseconds for a small effect and under a millisecond for 4,096
- * syllables (check: some milliseconds), as measured on one x86-64 machine. An instruction takes up to about a microsecond, the widest most, so n
- * bounds the time of a call: n = 10,000 took about 1 to 10 milliseconds, and n = 0xFFFFFFFF may take more than an hour. A call cannot be broken
- * off; use slices. To assemble took 20 to 90 microseconds for a small effect, and 5 milliseconds for 4,096 operations with 1,000 labels in half a
- * megabyte of text. Labels beyond the first 4,096 of a text are searched for one by one: 262,144 bytes of nothing but labels took 20 seconds, so a host
- * that takes texts from anybody bounds their length.
+ * syllables (check: some milliseconds), as measured on one x86-64 machine with the kit before rattle-kit-13f. An instruction takes up to about a
+ * microsecond, the widest most, so n bounds the time of a call: n = 10,000 took about 1 to 10 milliseconds, and n = 0xFFFFFFFF may take more than an
+ * hour. A call cannot be broken off; use slices. To assemble took 20 to 90 microseconds for a small effect, and 5 milliseconds for 4,096 operations
+ * with 1,000 labels in half a megabyte of text. Labels beyond the first 4,096 of a text are searched for one by one: 262,144 bytes of nothing but
+ * labels took 20 seconds, so a host that takes texts from anybody bounds their length.
  *
  * Link. The archive needs memcpy and memset of the system and nothing else; no call allocates, opens a file, or uses a thread.
  */
