@@ -13,11 +13,9 @@ use Rattle.lines.specs.Lines.{word_bytes}
 use Rattle.loader.specs.Answer.{answer}
 use Rattle.source.specs.Walk.{start, walked}
 use Rattle.source.specs.Reader.{hear_all}
-use Rattle.assembler.specs.Faults.{Judges, verdict}
+use Rattle.assembler.specs.Faults.{Judges, verdict, Verdict, Sound, Fault}
 use Rattle.assembler.specs.Program.{program}
 use Rattle.assembler.specs.Answer.{unfit, Assembled, assembled}
-use Rattle.assembler.specs.declared.judging.Verdict.{Verdict}
-use Rattle.assembler.specs.declared.judging.Verdict.TheVariants.{Sound, Fault}
 use Rattle.assembler.proofs.Verdicts.{judges}
 use Rattle.assembler.proofs.Counts.{count}
 

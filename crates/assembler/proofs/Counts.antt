@@ -10,7 +10,7 @@ use lib.Dec.{eqb}
 use lib.ListN.{length, length-append}
 use Rattle.word.specs.Choice.{pick}
 use Rattle.word.proofs.Choice.{or_false}
-use Rattle.values.specs.declared.Value.{Value}
+use Rattle.values.specs.Values.{Value}
 use Rattle.operations.specs.Meaning.{Said}
 use Rattle.source.specs.Heard.{Heard, says, unread}
 use Rattle.source.specs.Walk.{Walk, start, refused, step, walked, inside, empty, falls}

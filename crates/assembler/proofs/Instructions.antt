@@ -9,7 +9,7 @@ use borrow.Author.Tests.{eq-eqb, ne_eqb}
 use lib.Dec.{eqb}
 use lib.ListN.{length, length-append}
 use Rattle.word.proofs.Choice.{never_both, or_false}
-use Rattle.values.specs.declared.Value.{Value}
+use Rattle.values.specs.Values.{Value}
 use Rattle.operations.specs.Meaning.{Said, syllable_of}
 use Rattle.source.specs.Heard.{Heard, says, unread}
 use Rattle.source.specs.Walk.{Walk, refused, step, inside, empty, falls}

@@ -1,31 +1,33 @@
 -- Going from line to line, with the place where a label is first given, comes to the verdict.
-use mathlib.Core.Path.{◌≡◌, refl, sym, ap, ◌∙◌}
+use mathlib.Core.Path.{◌≡◌, refl, sym, ap, subst, ◌∙◌}
 use mathlib.Core.Bool.{Bool, true, false, not, ◌&&◌, ◌||◌}
 use mathlib.Core.List.{List, [], ◌∷◌, ◌++◌, map, append_assoc}
-use mathlib.Core.Option.{Option, none, some}
-use Prim.Native.Nat.{ℕ, suc, ◌+◌, ◌-◌, ◌≤◌, ◌<◌}
-use native.Mathlib.Decide.{dec_lt}
+use mathlib.Core.Option.{Option as Maybe, none, some}
+use Rattle.std.specs.Prelude.{Option, None, Some, IfSome, Ok, Err}
+use Prim.Native.Nat.{ℕ, suc, ◌+◌}
 use native.Mathlib.Omega.{arith}
 use borrow.Author.Tests.{eq-eqb, ne_eqb}
 use lib.Dec.{eqb}
-use lib.ListN.{length, take, drop}
+use lib.ListN.{length, drop}
 use Rattle.word.specs.Choice.{pick}
 use Rattle.word.specs.Lists.{any}
-use Rattle.operations.specs.declared.Syllable.{Syllable}
-use Rattle.operations.specs.declared.Syllable.TheVariants.{Is, Missing, Outside}
+use Rattle.operations.specs.Meaning.{Syllable}
+use Rattle.values.specs.declared.Fault.TheVariants.{Missing, Outside}
 use Rattle.source.specs.Grammar.{lines_of}
 use Rattle.source.specs.Heard.{Heard}
 use Rattle.source.specs.Walk.{Walk, start, refused, step}
 use Rattle.source.specs.Labels.{given_by, gives}
 use Rattle.source.specs.Reader.{hear, hear_all}
-use Rattle.source.specs.Seek.{Cut, seek}
-use Rattle.source.proofs.Places.{line_inside, line_size, line_last, line_inner}
-use Rattle.source.specs.declared.seeking.Seen.TheVariants.{At}
+use Rattle.source.specs.Seek.{lines_from, seek}
+use Rattle.source.specs.Each.{Gives}
+use Rattle.source.proofs.Places.{lines_here}
+use Rattle.source.specs.declared.reading.ReadLine.{ReadLine}
+use Rattle.source.specs.declared.each_line.Lines.{Lines}
 use Rattle.evaluation.specs.Evaluated.{labels_of}
-use Rattle.assembler.specs.Faults.{is_missing, is_outside, syllable_in, does_by, is_in, number_of, verdict_from, verdict}
-use Rattle.assembler.specs.Passes.{is_at, elsewhere, number_by, number_at, judged_from}
-use Rattle.assembler.specs.declared.judging.Verdict.{Verdict}
-use Rattle.assembler.specs.declared.judging.Verdict.TheVariants.{Sound, Fault}
+use Rattle.assembler.specs.Faults.{is_missing, is_outside, syllable_in, does_by, is_in, number_of, verdict_from, verdict, Verdict, Sound, Fault}
+use Rattle.assembler.specs.Passes.{is_at, elsewhere, number_by, number_at, judged_from, number_of_wrong}
+use Rattle.assembler.specs.declared.judging.Wrong.{Wrong}
+use Rattle.assembler.specs.declared.judging.Wrong.TheVariants as wrong
 use Rattle.tokens.proofs.Same.{same_self}
 
 -- the bytes of lines, each with its newline
@@ -40,7 +42,7 @@ first_place w at [] l ls name e g = let p = eq-eqb at _ (sym (e ∙ omega arith)
 first_place w at (a ∷ above) l ls name {place} e g = go (gives name (hear a)) _ (first_place (step w (hear a)) (at + length a + 1) above l ls name (e ∙ omega arith) g)
   where
     go : (t : Bool) (index : ℕ) → is_at place (seek (step w (hear a)) (at + length a + 1) (above ++ (l ∷ ls)) name) ≡ not (any (gives name) (map hear above))
-        → is_at place (pick t (At at index) (seek (step w (hear a)) (at + length a + 1) (above ++ (l ∷ ls)) name)) ≡ not (t || any (gives name) (map hear above))
+        → is_at place (pick t (Some (record { place = at; value = index })) (seek (step w (hear a)) (at + length a + 1) (above ++ (l ∷ ls)) name)) ≡ not (t || any (gives name) (map hear above))
     go true index i = ne_eqb at place (omega arith)
     go false index i = i
 
@@ -52,13 +54,13 @@ by_fault : (r x : Bool) (s : Syllable) → pick r 18 (pick x 19 (number_by s))
     ≡ pick r 18 (pick (x || (not r && is_missing s)) 19 (pick (not r && not (x || (not r && is_missing s)) && is_outside s) 20 0))
 by_fault true x s = refl
 by_fault false true s = refl
-by_fault false false (Is n) = refl
-by_fault false false Missing = refl
-by_fault false false Outside = refl
+by_fault false false (Ok n) = refl
+by_fault false false (Err Missing) = refl
+by_fault false false (Err Outside) = refl
 
 module _ (text : List ℕ) where
   module _ (above : List (List ℕ)) (l : List ℕ) (ls : List (List ℕ)) (e : lines_of text ≡ above ++ (l ∷ ls)) {place : ℕ} (at : place ≡ size_of above) where
-    is_elsewhere : (given : Option (List ℕ)) → given_by (hear l) ≡ given → elsewhere text place given ≡ is_in (map hear above) given
+    is_elsewhere : (given : Maybe (List ℕ)) → given_by (hear l) ≡ given → elsewhere text place given ≡ is_in (map hear above) given
     is_elsewhere none g = refl
     is_elsewhere (some name) g =
         let y : gives name (hear l) ≡ true = rw (g, same_self name) in
@@ -90,24 +92,32 @@ module _ (text : List ℕ) where
   unfolding verdict
   judged = from [] (lines_of text) start 0 refl refl
 
--- the line at a place
-module _ (text : List ℕ) (at n i : ℕ) (h : at ≤ length text) (cut : Cut (take (length text - at) (drop at text)) n) (w : Walk) where
-  abbrev this : List ℕ
-  this = take (at + n - at) (drop at text)
+-- the verdict from a place on, if there is a line
+abbrev pub judged_on : List ℕ → Walk → Option ℕ → ℕ → Verdict
+judged_on text w None i = Sound w.count
+judged_on text w (Some at) i = judged_from text w at i (lines_of (drop at text))
 
-  pub judged_here : {k : ℕ} → k ≡ number_at text w at (hear this) → (k ≡ 0 → ⊥) → Fault i k ≡ judged_from text w at i (lines_of (drop at text))
-  judged_here {k} e f = go (dec_lt (at + n) (length text))
+-- no line has the number 0
+pub some_number : (e : Wrong) → number_of_wrong e ≡ 0 → ⊥
+some_number wrong.Line e = omega arith
+some_number wrong.Label e = omega arith
+some_number wrong.Value e = omega arith
+
+module _ {s t : Lines} {at : ℕ} {l : ReadLine} (g : Gives s at l t) (text : List ℕ) (z : s.text.now ≡ text) (w : Walk) (i : ℕ) {k : ℕ}
+    (e : k ≡ number_at text w at (hear l.bytes.now)) where
+  here : lines_of (drop at text) ≡ l.bytes.now ∷ lines_from text t.next
+  here = subst (λ (x : List ℕ). lines_of (drop at x) ≡ l.bytes.now ∷ lines_from x t.next) z (lines_here g)
+
+  pub judged_here : (k ≡ 0 → ⊥) → judged_on text w s.next i ≡ Fault i k
+  judged_here f = rw (g.place, here, ← e, ne_eqb k 0 f)
+
+  pub judged_more : k ≡ 0 → judged_on text w s.next i ≡ judged_on text (step w (hear l.bytes.now)) t.next (i + 1)
+  judged_more f = rw (g.place, here, ← e, f) (go t.next g.next)
     where
-      by : (ls : List (List ℕ)) → lines_of (drop at text) ≡ this ∷ ls → Fault i k ≡ judged_from text w at i (lines_of (drop at text))
-      by ls p = rw (p, ← e, ne_eqb k 0 f)
+      v : Walk
+      v = step w (hear l.bytes.now)
 
-      go : Dec (at + n < length text) → Fault i k ≡ judged_from text w at i (lines_of (drop at text))
-      go (yes p) = by _ (line_inner text at n h cut (λ q. omega arith))
-      go (no p) = let s = line_inside text at n h cut in by _ (line_last text at n h cut (omega arith))
-
-  pub judged_last : {k : ℕ} → k ≡ number_at text w at (hear this) → k ≡ 0 → at + n ≡ length text → Sound (step w (hear this)).count ≡ judged_from text w at i (lines_of (drop at text))
-  judged_last e f p = rw (line_last text at n h cut p, ← e, f)
-
-  pub judged_inner : {k : ℕ} → k ≡ number_at text w at (hear this) → k ≡ 0 → (at + n ≡ length text → ⊥)
-      → judged_from text w at i (lines_of (drop at text)) ≡ judged_from text (step w (hear this)) (at + n + 1) (suc i) (lines_of (drop (at + n + 1) text))
-  judged_inner e f p = rw (line_inner text at n h cut p, ← e, f, line_size text at n h cut)
+      go : (o : Option ℕ) → IfSome o (λ n. n ≡ at + length l.bytes.now + 1)
+          → judged_from text v (at + length l.bytes.now + 1) (suc i) (lines_from text o) ≡ judged_on text v o (i + 1)
+      go None e = refl
+      go (Some n) e = let m : i + 1 ≡ suc i = omega arith in rw (e, m)

@@ -1,26 +1,31 @@
 -- Laws of syllables that are put into the program one after another.
 use mathlib.Core.Path.{◌≡◌, refl, ap, ◌∙◌}
 use mathlib.Core.Logic.{◌⊎◌, inl, inr}
-use mathlib.Core.Bool.{Bool, true, false, true≢false}
-use mathlib.Core.List.{List, [], ◌∷◌, ◌++◌}
-use Prim.Native.Nat.{ℕ, zero, suc, ◌+◌, ◌*◌, ◌-◌, ◌≤◌, ◌<◌}
-use native.Mathlib.Decide.{dec_lt}
+use mathlib.Core.Bool.{true, false}
+use mathlib.Core.List.{List, [], ◌∷◌, ◌++◌, map}
+use Prim.Native.Nat.{ℕ, zero, suc, ◌+◌, ◌*◌, ◌-◌, ◌≤◌}
 use native.Mathlib.Numerals.{add-one}
 use native.Mathlib.Omega.{arith}
 use borrow.Author.Tests.{eqb-true, eqb-false, lt-ltb, le-ltb}
 use lib.Dec.{eqb, ltb}
-use lib.ListN.{length, take, drop, length-append}
+use lib.ListN.{length, length-append}
+use Rattle.std.specs.Prelude.{Some}
 use lib.Seq.{sets, length-sets}
 use Rattle.word.proofs.Bytes.{sets_append}
 use Rattle.word.proofs.Choice.{by_test}
-use Rattle.values.specs.declared.Value.{Value}
+use Rattle.values.specs.Values.{Value}
 use Rattle.lines.specs.Lines.{word_bytes}
 use Rattle.source.specs.Heard.{Heard}
 use Rattle.source.specs.Walk.{Walk, start, refused, step, walked}
 use Rattle.source.specs.Reader.{hear, hear_all}
-use Rattle.source.specs.Seek.{Cut, does_in, heard_in, hear_from}
+use Rattle.operations.specs.declared.Operation.{Operation}
+use Rattle.source.specs.Seek.{does_in, heard_in}
+use Rattle.source.specs.Each.{left, Gives}
+use Rattle.source.specs.declared.reading.Says.{Says}
 use Rattle.source.specs.declared.reading.Line.{Line}
-use Rattle.source.proofs.Places.{here, line_inside, line_last, line_inner}
+use Rattle.source.specs.declared.reading.ReadLine.{ReadLine}
+use Rattle.source.specs.declared.each_line.Lines.{Lines}
+use Rattle.source.proofs.Places.{left_here}
 use Rattle.evaluation.specs.Evaluated.{labels_of}
 use Rattle.assembler.specs.Program.{opens, nops}
 use Rattle.assembler.specs.Program.{program as program_of}
@@ -49,39 +54,31 @@ nops_more n = rw add-one (nops_suc n)
 
 -- ---- what a line puts
 
-module _ (line : List ℕ) (l : Line) (w : Walk) (last : ℕ) where
-  module _ (o : l.operates ≡ true) where
-    pub fills_size : length (fills w last (does_in line l)) ≡ length (kept w last) + (l.operation.cluster - w.opened)
-    fills_size = rw o (length-append (kept w last) (nops (l.operation.cluster - w.opened)) ∙ ap (λ n. length (kept w last) + n) (nops_length (l.operation.cluster - w.opened)))
+module _ (line : List ℕ) (o : Operation) (w : Walk) (last : ℕ) where
+  pub fills_size : length (fills w last (does_in line (Some o))) ≡ length (kept w last) + (o.cluster - w.opened)
+  fills_size = length-append (kept w last) (nops (o.cluster - w.opened)) ∙ ap (λ n. length (kept w last) + n) (nops_length (o.cluster - w.opened))
 
-    pub fills_put : (program : List ℕ) (out : ℕ) {to : ℕ} → to ≡ out + length (kept w last)
-        → sets (sets program (out * 4) (word_bytes (kept w last))) (to * 4) (word_bytes (nops (l.operation.cluster - w.opened)))
-        ≡ sets program (out * 4) (word_bytes (fills w last (does_in line l)))
-    fills_put program out e = rw o (put_more program out (kept w last) (nops (l.operation.cluster - w.opened)) e)
+  pub fills_put : (program : List ℕ) (out : ℕ) {to : ℕ} → to ≡ out + length (kept w last)
+      → sets (sets program (out * 4) (word_bytes (kept w last))) (to * 4) (word_bytes (nops (o.cluster - w.opened)))
+      ≡ sets program (out * 4) (word_bytes (fills w last (does_in line (Some o))))
+  fills_put program out e = put_more program out (kept w last) (nops (o.cluster - w.opened)) e
 
-  -- a line that is not refused is as it should be
-  module _ (env : List ℕ → Value) (r : refused w (heard_in line l) ≡ false) where
-    as_read : l.read ≡ true
-    as_read = go l.read refl
-      where
-        go : (t : Bool) → l.read ≡ t → l.read ≡ true
-        go true e = e
-        go false e = absurd (true≢false (rw e at r))
+-- a line that is not refused
+module _ (line : List ℕ) (l : Line) (w : Walk) (last : ℕ) (env : List ℕ → Value) {says : Says} (e : l.says ≡ Some says) (r : refused w (heard_in line l) ≡ false) where
+  pub lastly_keeps : lastly env w last (heard_in line l) ≡ keeps env w last (does_in line says.operation)
+  lastly_keeps = rw (r, e)
 
-    pub lastly_keeps : lastly env w last (heard_in line l) ≡ keeps env w last (does_in line l)
-    lastly_keeps = rw (r, as_read)
+  module _ {next : ℕ} (k : next ≡ keeps env w last (does_in line says.operation)) where
+    adds_parts : adds env w last (heard_in line l) ≡ fills w last (does_in line says.operation) ++ ending says.ends next
+    adds_parts = rw (r, e, k)
 
-    module _ {next : ℕ} (k : next ≡ keeps env w last (does_in line l)) where
-      adds_parts : adds env w last (heard_in line l) ≡ fills w last (does_in line l) ++ ending l.ends next
-      adds_parts = rw (r, as_read, k)
+    pub adds_size : length (adds env w last (heard_in line l)) ≡ length (fills w last (does_in line says.operation)) + length (ending says.ends next)
+    adds_size = ap length adds_parts ∙ length-append (fills w last (does_in line says.operation)) (ending says.ends next)
 
-      pub adds_size : length (adds env w last (heard_in line l)) ≡ length (fills w last (does_in line l)) + length (ending l.ends next)
-      adds_size = ap length adds_parts ∙ length-append (fills w last (does_in line l)) (ending l.ends next)
-
-      pub adds_put : (program : List ℕ) (out : ℕ) {to : ℕ} → to ≡ out + length (fills w last (does_in line l))
-          → sets (sets program (out * 4) (word_bytes (fills w last (does_in line l)))) (to * 4) (word_bytes (ending l.ends next))
-          ≡ sets program (out * 4) (word_bytes (adds env w last (heard_in line l)))
-      adds_put program out e = rw adds_parts (put_more program out (fills w last (does_in line l)) (ending l.ends next) e)
+    pub adds_put : (program : List ℕ) (out : ℕ) {to : ℕ} → to ≡ out + length (fills w last (does_in line says.operation))
+        → sets (sets program (out * 4) (word_bytes (fills w last (does_in line says.operation)))) (to * 4) (word_bytes (ending says.ends next))
+        ≡ sets program (out * 4) (word_bytes (adds env w last (heard_in line l)))
+    adds_put program out t = rw adds_parts (put_more program out (fills w last (does_in line says.operation)) (ending says.ends next) t)
 
 -- ---- from line to line
 
@@ -129,26 +126,15 @@ rest_all text program h =
     record { room = rw e (omega (arith, count (hear_all text))); makes = rw e }
 
 -- the line at a place, and those below it
-module _ (text : List ℕ) (at n : ℕ) (h : at ≤ length text) (cut : Cut (take (length text - at) (drop at text)) n) (l : Line) (e : heard_in (here text at n h cut) l ≡ hear (here text at n h cut)) where
-  heard_last : at + n ≡ length text → hear_from text at ≡ heard_in (here text at n h cut) l ∷ []
-  heard_last p = rw (line_last text at n h cut p, e)
+module _ {s t : Lines} {at : ℕ} {l : ReadLine} (g : Gives s at l t) {env : List ℕ → Value} {program whole : List ℕ} {w : Walk} {out last : ℕ}
+    (f : Rest env program whole w out last (map hear (left s))) where
+  rest_here : Rest env program whole w out last (heard_in l.bytes.now l.line ∷ map hear (left t))
+  rest_here = rw (left_here g, ← g.heard) at f
 
-  heard_inner : (at + n ≡ length text → ⊥) → hear_from text at ≡ heard_in (here text at n h cut) l ∷ hear_from text (at + n + 1)
-  heard_inner p = rw (line_inner text at n h cut p, e)
+  pub room_here : (out + length (adds env w last (heard_in l.bytes.now l.line))) * 4 ≤ length program
+  room_here = line_room rest_here
 
-  module _ {env : List ℕ → Value} {program whole : List ℕ} {w : Walk} {out last : ℕ} (f : Rest env program whole w out last (hear_from text at)) where
-    pub room_here : (out + length (adds env w last (heard_in (here text at n h cut) l))) * 4 ≤ length program
-    room_here = go (dec_lt (at + n) (length text))
-      where
-        go : Dec (at + n < length text) → (out + length (adds env w last (heard_in (here text at n h cut) l))) * 4 ≤ length program
-        go (yes p) = line_room (rw (heard_inner (λ q. omega arith)) at f)
-        go (no p) = let s = line_inside text at n h cut in line_room (rw (heard_last (omega arith)) at f)
-
-    module _ {after : List ℕ} {v : Walk} {to next : ℕ} (a : after ≡ sets program (out * 4) (word_bytes (adds env w last (heard_in (here text at n h cut) l))))
-        (s : v ≡ step w (heard_in (here text at n h cut) l)) (t : to ≡ out + length (adds env w last (heard_in (here text at n h cut) l)))
-        (k : next ≡ lastly env w last (heard_in (here text at n h cut) l)) where
-      pub rest_last : at + n ≡ length text → Rest env after whole v to next []
-      rest_last p = rest_more (rw (heard_last p) at f) a s t k
-
-      pub rest_inner : (at + n ≡ length text → ⊥) → Rest env after whole v to next (hear_from text (at + n + 1))
-      rest_inner p = rest_more (rw (heard_inner p) at f) a s t k
+  pub rest_on : {after : List ℕ} {v : Walk} {to next : ℕ} → after ≡ sets program (out * 4) (word_bytes (adds env w last (heard_in l.bytes.now l.line)))
+      → v ≡ step w (heard_in l.bytes.now l.line) → to ≡ out + length (adds env w last (heard_in l.bytes.now l.line)) → next ≡ lastly env w last (heard_in l.bytes.now l.line)
+      → Rest env after whole v to next (map hear (left t))
+  rest_on a e t n = rest_more rest_here a e t n

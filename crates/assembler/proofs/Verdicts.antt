@@ -14,9 +14,7 @@ use Rattle.word.specs.Choice.{pick}
 use Rattle.source.specs.Heard.{Heard, says}
 use Rattle.source.specs.Walk.{Walk, start, step, walked}
 use Rattle.source.specs.Labels.{value_of}
-use Rattle.assembler.specs.Faults.{has18, has19, has20, broken, Judges, number_of, verdict_from, verdict}
-use Rattle.assembler.specs.declared.judging.Verdict.{Verdict}
-use Rattle.assembler.specs.declared.judging.Verdict.TheVariants.{Sound, Fault}
+use Rattle.assembler.specs.Faults.{has18, has19, has20, broken, Judges, number_of, verdict_from, verdict, Verdict, Sound, Fault}
 use Rattle.assembler.proofs.Numbers.{no_fault, is_fault, lowest_fault}
 
 pub walked_append : (w : Walk) (xs ys : List Heard) → walked w (xs ++ ys) ≡ walked (walked w xs) ys

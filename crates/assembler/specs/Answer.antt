@@ -7,10 +7,8 @@ use Rattle.loader.specs.Answer.{answer, room_with}
 use Rattle.loader.specs.declared.Answer.{Answer}
 use Rattle.source.specs.Heard.{Heard}
 use Rattle.source.specs.Reader.{hear_all}
-use Rattle.assembler.specs.Faults.{verdict}
+use Rattle.assembler.specs.Faults.{verdict, Verdict, Sound, Fault}
 use Rattle.assembler.specs.Program.{program}
-use Rattle.assembler.specs.declared.judging.Verdict.{Verdict}
-use Rattle.assembler.specs.declared.judging.Verdict.TheVariants.{Sound, Fault}
 
 -- "no syllable, more than 4,096, or more than the lent room holds": "as many syllables as it has whole words"
 abbrev pub unfit : ℕ → ℕ → Bool

@@ -1,27 +1,24 @@
 -- What is refused: "One answer for a text: of all lines' faults the lowest line, and on it the lowest number."
-use Rattle.std.specs.Prelude.{◌≡◌, Bool, true, false, not, ◌&&◌, ◌||◌, List, [], ◌∷◌, ◌++◌, ℕ, suc, ◌≤◌, ◌<◌, eqb, length, get_or, take}
+use Rattle.std.specs.Prelude.{◌≡◌, Bool, true, false, not, ◌&&◌, ◌||◌, List, [], ◌∷◌, ◌++◌, ℕ, suc, ◌≤◌, ◌<◌, eqb, length, get_or, take, Ok, Err}
 use Rattle.std.proofs.Math.Option.{Option, none, some}
 use Rattle.word.specs.Choice.{pick}
 use Rattle.word.specs.Lists.{any}
-use Rattle.values.specs.declared.Value.{Value}
-use Rattle.operations.specs.Meaning.{Said, syllable_of}
-use Rattle.operations.specs.declared.Syllable.{Syllable}
-use Rattle.operations.specs.declared.Syllable.TheVariants.{Is, Missing, Outside}
+use Rattle.values.specs.Values.{Value}
+use Rattle.operations.specs.Meaning.{Said, syllable_of, Syllable}
+use Rattle.values.specs.declared.Fault.TheVariants.{Missing, Outside}
 use Rattle.source.specs.Heard.{Heard, says, unread}
 use Rattle.source.specs.Walk.{Walk, start, refused, step, walked}
 use Rattle.source.specs.Labels.{given_by, gives, value_of}
-use Rattle.assembler.specs.declared.judging.Verdict.{Verdict}
-use Rattle.assembler.specs.declared.judging.Verdict.TheVariants.{Sound, Fault}
 
 abbrev pub is_missing : Syllable → Bool
-is_missing (Is s) = false
-is_missing Missing = true
-is_missing Outside = false
+is_missing (Ok s) = false
+is_missing (Err Missing) = true
+is_missing (Err Outside) = false
 
 abbrev pub is_outside : Syllable → Bool
-is_outside (Is s) = false
-is_outside Missing = false
-is_outside Outside = true
+is_outside (Ok s) = false
+is_outside (Err Missing) = false
+is_outside (Err Outside) = true
 
 abbrev pub does_by : Heard → Option Said
 does_by (says given does ends) = does
@@ -29,7 +26,7 @@ does_by (unread given) = none
 
 -- a line without an operation has nothing that is missing or outside
 abbrev pub syllable_in : (List ℕ → Value) → Option Said → Syllable
-syllable_in env none = Is 0
+syllable_in env none = Ok 0
 syllable_in env (some s) = syllable_of env s
 
 abbrev pub is_in : List Heard → Option (List ℕ) → Bool
@@ -62,6 +59,11 @@ pub record Lowest (hs : List Heard) (i k : ℕ) : Type 0 where
   pub there : broken hs i k ≡ true
   pub line : (j m : ℕ) → j < length hs → broken hs j m ≡ true → i ≤ j
   pub number : (m : ℕ) → broken hs i m ≡ true → k ≤ m
+
+-- how many syllables a text has, where there is no fault; or the line, from 0, and the number
+pub data Verdict : Type 0 where
+  Sound : ℕ → Verdict
+  Fault : ℕ → ℕ → Verdict
 
 -- a verdict on a text: no fault at all, and how many syllables there are, or the lowest fault
 abbrev pub Judges : List Heard → Verdict → Type 0

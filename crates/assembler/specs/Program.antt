@@ -1,11 +1,9 @@
 -- The syllables of a text. An instruction is its operations, whichever lines they stand on.
-use Rattle.std.specs.Prelude.{Bool, false, List, [], ◌∷◌, ◌++◌, ℕ, zero, suc, ◌+◌, ◌-◌, ◌^◌, ltb}
+use Rattle.std.specs.Prelude.{Bool, false, List, [], ◌∷◌, ◌++◌, ℕ, zero, suc, ◌+◌, ◌-◌, ◌^◌, ltb, Ok, Err}
 use Rattle.std.proofs.Math.Option.{Option, none, some}
 use Rattle.word.specs.Choice.{pick}
-use Rattle.values.specs.declared.Value.{Value}
-use Rattle.operations.specs.Meaning.{Said, syllable_of}
-use Rattle.operations.specs.declared.Syllable.{Syllable}
-use Rattle.operations.specs.declared.Syllable.TheVariants.{Is, Missing, Outside}
+use Rattle.values.specs.Values.{Value}
+use Rattle.operations.specs.Meaning.{Said, syllable_of, Syllable}
 use Rattle.source.specs.Heard.{Heard, says, unread}
 use Rattle.source.specs.Walk.{Walk, start, refused, step}
 use Rattle.source.specs.Labels.{value_of}
@@ -48,9 +46,8 @@ nops (suc n) = opens ∷ nops n
 
 -- of a text without a fault each operation has its syllable
 abbrev pub bits_of : Syllable → ℕ
-bits_of (Is s) = s
-bits_of Missing = 0
-bits_of Outside = 0
+bits_of (Ok s) = s
+bits_of (Err w) = 0
 
 abbrev pub if_last : List Said → ℕ
 if_last [] = ends

@@ -3,10 +3,9 @@ use Rattle.std.specs.Prelude.{◌≡◌, List, map, ℕ, length}
 use Rattle.source.specs.Grammar.{lines_of, Reading, ReadAll}
 use Rattle.source.specs.Heard.{Heard, heard}
 use Rattle.source.specs.Walk.{start, walked}
-use Rattle.assembler.specs.Faults.{Judges, verdict}
+use Rattle.assembler.specs.Faults.{Judges, verdict, Verdict}
 use Rattle.assembler.specs.Program.{program}
 use Rattle.assembler.specs.Answer.{assembled, heard_to}
-use Rattle.assembler.specs.declared.judging.Verdict.{Verdict}
 
 -- "lowest line first, then lowest number", over all faults of the text: the verdict is the one that this allows
 pub record LowestFirst : Type 0 where

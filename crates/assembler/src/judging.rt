@@ -1,147 +1,105 @@
 // The lowest fault of a text, line by line.
-ghost use Rattle.std.specs.Prelude.{◌≡◌, true, length};
+ghost use Rattle.std.specs.Prelude.{◌≡◌, length};
 ghost use Rattle.source.specs.Labels.{given_by};
 ghost use Rattle.source.specs.Reader.{hear_all};
-ghost use Rattle.source.specs.Seek.{heard_in, walk_of, Kept};
-ghost use Rattle.evaluation.specs.Known.{Tabled};
+ghost use Rattle.source.specs.Seek.{heard_in, walk_of};
 ghost use Rattle.evaluation.specs.Evaluated.{labels_of};
 ghost use Rattle.assembler.specs.Faults.{syllable_in, does_by, verdict};
-ghost use Rattle.assembler.specs.Passes.{is_at, elsewhere, number_by, number_at, Within};
+ghost use Rattle.assembler.specs.Passes.{elsewhere, number_by, number_at, number_of_wrong, wrong_by, number_in, verdict_in, Within};
 
-use evaluation::labels;
-use evaluation::labels::Known;
+use evaluation::labels::Labels;
 use evaluation::syllables::syllable;
-use operations::Syllable;
-use source::reading::{Line, line_length, read};
-use source::seeking::Seen;
+use source::each_line::Lines;
+use source::reading::ReadLine;
 use source::walking::{Walk, is_refused, step};
+use values::Fault;
 
-#[derive(Clone, Copy)]
-pub enum Verdict {
-    // no fault, and how many syllables there are
-    Sound(usize),
-    // the line, from 0, and the number
-    Fault(usize, u32),
+// What is wrong with a line.
+#[derive(Clone, Copy, PartialEq, Eq)]
+pub enum Wrong {
+    // 18: the line itself, or where it stands
+    Line,
+    // 19: its label is given above, or no line gives one that it uses
+    Label,
+    // 20: a value is outside the range or its field
+    Value,
 }
 
-fn is_at(place: usize, s: Seen) -> bool
-    ensures { result ≡ is_at place s }
-{
-    match s {
-        Seen::Nowhere => false,
-        Seen::At(p, _) => p == place,
+impl Wrong {
+    pub fn number(self) -> u32
+        ensures { result ≡ number_of_wrong self }
+    {
+        match self {
+            Wrong::Line => 18,
+            Wrong::Label => 19,
+            Wrong::Value => 20,
+        }
     }
 }
 
-// 0, 19 or 20.
-fn number_by(s: Syllable) -> u32
-    ensures { result ≡ number_by s }
-{
-    match s {
-        Syllable::Is(_) => 0,
-        Syllable::Missing => 19,
-        Syllable::Outside => 20,
+impl From<Fault> for Wrong {
+    ghost from_gives = { λ fault wrong. wrong ≡ wrong_by fault };
+
+    fn from(fault: Fault) -> Wrong {
+        match fault {
+            Fault::Missing => Wrong::Label,
+            Fault::Outside => Wrong::Value,
+        }
     }
 }
 
-// The number of a line that is not refused with 18.
-fn value_number(
-    line: &[u8],
-    l: Line,
-    text: &[u8],
-    places: &[usize],
-    hashes: &[u32],
-    values: &[usize],
-    k: Known,
-) -> u32
-    requires tabled { Tabled text.now places.now hashes.now values.now k }
-    requires kept { Kept line.now l }
-    requires read_value { l.read ≡ true }
-    ensures { result ≡ number_by (syllable_in (labels_of text.now) (does_by (heard_in line.now l))) }
-{
-    if !l.operates {
-        return 0;
-    }
-    let o = l.operation;
-    number_by(syllable(line, o, text, places, hashes, values, k))
+// The lowest line with a fault, from 0, and what is wrong with it.
+#[derive(Clone, Copy, PartialEq, Eq)]
+pub struct LowestFault {
+    pub line: usize,
+    pub wrong: Wrong,
 }
 
 // Whether the label of a line is first given elsewhere.
-fn is_elsewhere(
-    line: &[u8],
-    l: Line,
-    place: usize,
-    text: &[u8],
-    places: &[usize],
-    hashes: &[u32],
-    values: &[usize],
-    k: Known,
-) -> bool
-    requires tabled { Tabled text.now places.now hashes.now values.now k }
-    requires kept { Kept line.now l }
-    ensures { result ≡ elsewhere text.now place (given_by (heard_in line.now l)) }
+fn is_elsewhere(l: &ReadLine<'_>, place: usize, labels: &Labels<'_>) -> bool
+    ensures { result ≡ elsewhere labels.now.text.now place (given_by (heard_in l.now.bytes.now l.now.line)) }
 {
-    if !l.labelled {
-        return false;
+    let Some(name) = l.name() else { return false };
+    match labels.find(name) {
+        Some(given) => given.place != place,
+        None => true,
     }
-    let from = l.from;
-    let to = l.to;
-    !is_at(
-        place,
-        labels::find(text, places, hashes, values, k, &line[from..to]),
-    )
 }
 
-// The number of the line at a place: 0, 18, 19 or 20.
-fn number(
-    line: &[u8],
-    l: Line,
-    w: Walk,
-    place: usize,
-    text: &[u8],
-    places: &[usize],
-    hashes: &[u32],
-    values: &[usize],
-    k: Known,
-) -> u32
-    requires tabled { Tabled text.now places.now hashes.now values.now k }
-    requires kept { Kept line.now l }
-    ensures { result ≡ number_at text.now (walk_of w) place (heard_in line.now l) }
+// Whether the operation of a line has its syllable.
+fn check_syllable(l: &ReadLine<'_>, labels: &Labels<'_>) -> Result<(), Wrong>
+    ensures { number_in result ≡ number_by (syllable_in (labels_of labels.now.text.now) (does_by (heard_in l.now.bytes.now l.now.line))) }
 {
-    if is_refused(w, l) {
-        return 18;
+    let Some(o) = l.line.operation() else {
+        return Ok(());
+    };
+    syllable(l.bytes, o, labels)?;
+    Ok(())
+}
+
+// Whether the line at a place is without a fault.
+fn check(l: &ReadLine<'_>, place: usize, w: Walk, labels: &Labels<'_>) -> Result<(), Wrong>
+    ensures { number_in result ≡ number_at labels.now.text.now (walk_of w) place (heard_in l.now.bytes.now l.now.line) }
+{
+    if is_refused(w, l.line) {
+        return Err(Wrong::Line);
     }
-    if is_elsewhere(line, l, place, text, places, hashes, values, k) {
-        return 19;
+    if is_elsewhere(l, place, labels) {
+        return Err(Wrong::Label);
     }
-    value_number(line, l, text, places, hashes, values, k)
+    check_syllable(l, labels)
 }
 
 // The lowest line with a fault, and its lowest number; or how many syllables there are.
-pub fn judge(text: &[u8], places: &[usize], hashes: &[u32], values: &[usize], k: Known) -> Verdict
-    requires { Tabled text.now places.now hashes.now values.now k }
-    ensures { (result ≡ verdict (hear_all text.now)) × Within (length text.now) result }
+pub fn judge(labels: &Labels<'_>) -> Result<usize, LowestFault>
+    ensures { (verdict_in result ≡ verdict (hear_all labels.now.text.now)) × Within (length labels.now.text.now) (verdict_in result) }
 {
-    let mut at = 0;
-    let mut i = 0;
-    let mut w = Walk {
-        count: 0,
-        opened: 0,
-    };
-    while at <= text.len() {
-        let n = line_length(&text[at..]);
-        let end = at + n;
-        let l = read(&text[at..end]);
-        let number = number(&text[at..end], l, w, at, text, places, hashes, values, k);
-        if number != 0 {
-            return Verdict::Fault(i, number);
+    let mut w = Walk::START;
+    for (line, (place, l)) in Lines::from_place(labels.text, 0).enumerate() {
+        if let Err(wrong) = check(&l, place, w, labels) {
+            return Err(LowestFault { line, wrong });
         }
-        w = step(w, l);
-        if end == text.len() {
-            return Verdict::Sound(w.count);
-        }
-        at = end + 1;
-        i += 1;
+        w = step(w, l.line);
     }
-    Verdict::Sound(w.count)
+    Ok(w.count)
 }

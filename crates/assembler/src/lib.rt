@@ -2,6 +2,7 @@
 #![tactic(auto)]
 
 ghost use Rattle.std.specs.Prelude.{◌≡◌};
+ghost use Rattle.loader.specs.Answer.{answer};
 ghost use Rattle.assembler.specs.Answer.{unfit, assembled, assemble_outcome};
 ghost use Rattle.assembler.specs.Promise.{LowestFirst, ByGrammar, Counted};
 ghost use Rattle.assembler.specs.Examples.{Examples};
@@ -10,60 +11,57 @@ pub mod judging; // judging.rt: the lowest fault of a text, or how many syllable
 mod tabling; // tabling.rt: the table of the first labels
 mod writing; // writing.rt: the syllables, put into the program
 
-use judging::{Verdict, judge};
+use arrayvec::ArrayVec;
+use evaluation::labels::{Known, Labels};
+use judging::judge;
 use loader::{Answer, answers};
-use tabling::table;
+use tabling::fill;
 use writing::write;
 
 // Whether so many syllables are refused with 2, place 0.
 fn is_unfit(n: usize, bytes: usize) -> bool
     ensures { result ≡ unfit n bytes }
 {
-    if n == 0 {
-        return true;
+    n == 0 || 4096 < n || bytes / 4 < n
+}
+
+fn refused(number: u32, place: u64) -> Answer
+    ensures { result ≡ answer number 0 place }
+{
+    Answer {
+        number,
+        count: 0,
+        place,
     }
-    if 4096 < n {
-        return true;
-    }
-    bytes / 4 < n
 }
 
 // Judges a text and puts its syllables into the program, unless it is refused, or the room is not of 12 bytes.
 fn answer(text: &[u8], program: &mut [u8], room: usize) -> Answer
     ensures { record { answer = result; program = program.new } ≡ assembled text.now program.old room }
 {
-    let mut places = [0usize; 4096];
-    let mut hashes = [0u32; 4096];
-    let mut values = [0usize; 4096];
-    let k = table(text, &mut places, &mut hashes, &mut values);
-    match judge(text, &places, &hashes, &values, k) {
-        Verdict::Fault(i, number) => Answer {
-            number: number,
-            count: 0,
-            place: i as u64 + 1,
-        },
-        Verdict::Sound(n) => {
-            if is_unfit(n, program.len()) {
-                return Answer {
-                    number: 2,
-                    count: 0,
-                    place: 0,
-                };
-            }
-            if room != 12 {
-                return Answer {
-                    number: 2,
-                    count: 0,
-                    place: 3,
-                };
-            }
-            write(text, &places, &hashes, &values, k, program);
-            Answer {
-                number: 0,
-                count: n as u64,
-                place: 0,
-            }
-        }
+    let mut known = ArrayVec::<Known, 4096>::new();
+    let (at, walk) = fill(&mut known, text);
+    let labels = Labels {
+        text,
+        known: known.as_slice(),
+        at,
+        walk,
+    };
+    let n = match judge(&labels) {
+        Ok(n) => n,
+        Err(fault) => return refused(fault.wrong.number(), fault.line as u64 + 1),
+    };
+    if is_unfit(n, program.len()) {
+        return refused(2, 0);
+    }
+    if room != 12 {
+        return refused(2, 3);
+    }
+    write(&labels, program);
+    Answer {
+        number: 0,
+        count: n as u64,
+        place: 0,
     }
 }
 

@@ -1,82 +1,42 @@
 // The table of the first labels of a text: those above the first line with 18, up to 4,096.
-ghost use Rattle.std.specs.Prelude.{◌≡◌, ◌+◌, ◌-◌, ◌<◌, length, set, take, drop};
-ghost use Rattle.word.specs.Choice.{pick, bit};
-ghost use Rattle.source.specs.Seek.{Kept};
-ghost use Rattle.evaluation.specs.Known.{hash_of, Tabled};
+ghost use Rattle.std.specs.Prelude.{◌≡◌, ◌<◌, [], ◌++◌};
+ghost use Rattle.arrayvec.specs.ArrayVec.{array_vec_len};
+ghost use Rattle.source.specs.Seek.{name_in};
+ghost use Rattle.evaluation.specs.Known.{Tabled};
+ghost use Rattle.assembler.specs.Passes.{noted};
 
+use arrayvec::ArrayVec;
 use evaluation::labels::{Known, hash};
-use source::reading::{Line, line_length, read};
+use source::each_line::Lines;
+use source::reading::ReadLine;
 use source::walking::{Walk, is_refused, step};
 
-// Notes the label of the line at `at`, if it gives one, as the n-th of the table: how many there are then.
-fn note(
-    line: &[u8],
-    l: Line,
-    at: usize,
-    count: usize,
-    n: usize,
-    places: &mut [usize],
-    hashes: &mut [u32],
-    values: &mut [usize],
-) -> usize
-    requires kept { Kept line.now l }
-    requires n_in_bounds { (n < length places.old) × (n < length hashes.old) × (n < length values.old) }
-    ensures value { result ≡ n + bit l.labelled }
-    ensures places_after { places.new ≡ pick l.labelled (set places.old n at) places.old }
-    ensures hashes_after { hashes.new
-        ≡ pick l.labelled (set hashes.old n (hash_of (take (l.to - l.from) (drop l.from line.now)))) hashes.old }
-    ensures values_after { values.new ≡ pick l.labelled (set values.old n count) values.old }
+// Notes the label of the line at a place, if it gives one.
+fn note(known: &mut ArrayVec<Known, 4096>, l: &ReadLine<'_>, place: usize, value: usize)
+    requires { array_vec_len known.old < 4096 }
+    ensures { known.new.items ≡ known.old.items ++ noted (name_in l.now.bytes.now l.now.line.label) place value }
 {
-    if !l.labelled {
-        return n;
+    if let Some(name) = l.name() {
+        known.push(Known {
+            place,
+            hash: hash(name),
+            value,
+        });
     }
-    let from = l.from;
-    let to = l.to;
-    places[n] = at;
-    hashes[n] = hash(&line[from..to]);
-    values[n] = count;
-    n + 1
 }
 
-// The table of a text.
-pub fn table(text: &[u8], places: &mut [usize], hashes: &mut [u32], values: &mut [usize]) -> Known
-    requires { (length places.old ≡ 4096) × (length hashes.old ≡ 4096) × (length values.old ≡ 4096) }
-    ensures { Tabled text.now places.new hashes.new values.new result }
+// Fills the table of a text: the line where the search for the other labels goes on, and how far the text has come there.
+pub fn fill(known: &mut ArrayVec<Known, 4096>, text: &[u8]) -> (usize, Walk)
+    requires { known.old.items ≡ [] }
+    ensures { Tabled text.now known.new.items result.0 result.1 }
 {
-    let mut n = 0;
-    let mut at = 0;
-    let mut w = Walk {
-        count: 0,
-        opened: 0,
-    };
-    while n < 4096 {
-        let m = line_length(&text[at..]);
-        let end = at + m;
-        let l = read(&text[at..end]);
-        if is_refused(w, l) {
-            return Known {
-                n: n,
-                at: at,
-                count: w.count,
-                opened: w.opened,
-            };
+    let mut w = Walk::START;
+    for (place, l) in Lines::from_place(text, 0) {
+        if known.is_full() || is_refused(w, l.line) {
+            return (place, w);
         }
-        n = note(&text[at..end], l, at, w.count, n, places, hashes, values);
-        w = step(w, l);
-        if end == text.len() {
-            return Known {
-                n: n,
-                at: end,
-                count: w.count,
-                opened: w.opened,
-            };
-        }
-        at = end + 1;
+        note(known, &l, place, w.count);
+        w = step(w, l.line);
     }
-    Known {
-        n: n,
-        at: at,
-        count: w.count,
-        opened: w.opened,
-    }
+    (text.len(), w)
 }

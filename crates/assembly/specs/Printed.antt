@@ -1,6 +1,6 @@
 -- The whole output of the program assemble, for any input: a program as the text program reads it, or the answer of a refusal.
-use Rattle.std.specs.Prelude.{◌≡◌, List, [], ◌∷◌, ◌++◌, ℕ, ◌-◌, ◌≤◌, eqb, ltb, length, take, replicate}
-use Rattle.std.proofs.lemmas.List.Edits.{sets}
+use Rattle.std.specs.Prelude.{List, [], ◌∷◌, ◌++◌, ℕ, eqb, ltb, length, take, replicate}
+use Rattle.arrayvec.specs.ArrayVec.{ArrayVec}
 use Rattle.word.specs.Choice.{pick}
 use Rattle.word.specs.Bytes.{word_at, words}
 use Rattle.isa.specs.Syllable.{ends}
@@ -8,7 +8,6 @@ use Rattle.loader.specs.Answer.{answer}
 use Rattle.lines.specs.Lines.{blank, newline}
 use Rattle.assembler.specs.Answer.{Outcome, assemble_outcome}
 use Rattle.text.specs.Rows.{field, answer_row}
-use Rattle.assembly.specs.declared.Printed.{Printed}
 
 -- "one instruction a line, bit 31 set on its last syllable only"
 abbrev pub behind : ℕ → ℕ
@@ -29,13 +28,6 @@ unfoldable pub printed : List ℕ → List ℕ
 printed text =
     pick (ltb 262144 (length text)) (answer_row (answer 16 0 0)) (printed_by (assemble_outcome text (replicate 16384 0) (replicate 12 0)))
 
--- the output in a room of 36,864 bytes, nine for each of 4,096 syllables, and its length
-abbrev pub printed_in : List ℕ → Printed
-printed_in text =
-    record { bytes = printed text ++ replicate (36864 - length (printed text)) 0; length = length (printed text) }
-
--- an output, put into a room of that size
-pub record Put (before after : List ℕ) (r : ℕ) (output : List ℕ) : Type 0 where
-  pub out : after ≡ sets before 0 output
-  pub count : r ≡ length output
-  pub fits : r ≤ 36864
+-- the output in a room of 36,864 bytes, nine for each of 4,096 syllables
+abbrev pub printed_in : List ℕ → ArrayVec ℕ
+printed_in text = record { items = printed text }

@@ -7,13 +7,13 @@ use native.Mathlib.Omega.{arith}
 use lib.Dec.{eqb, ltb}
 use lib.ListN.{length}
 use borrow.Author.Tests.{eqb-true, eq-eqb, ltb-false, le-ltb, not-false}
+use Rattle.std.specs.Prelude.{Ok}
 use Rattle.word.specs.Bytes.{words}
 use Rattle.word.proofs.Choice.{or_false}
 use Rattle.word.proofs.Bytes.{words_length}
 use Rattle.isa.specs.Program.{is_start}
 use Rattle.isa.proofs.Instructions.{start_inside}
 use Rattle.refusals.specs.Broken.{bad_program_length}
-use Rattle.loader.specs.declared.Loaded.TheVariants.{Good}
 use Rattle.loader.proofs.Refusals.{otherwise_good, refused_if_good}
 use Rattle.call.specs.Run.{sizes_of}
 
@@ -25,7 +25,7 @@ pub record Fits (p m s r : List ℕ) : Type 0 where
   pub state : length s ≡ 2888
   pub room : length r ≡ 12
 
-pub fits : (program memory state room : List ℕ) → sizes_of program memory state room ≡ Good → Fits program memory state room
+pub fits : (program memory state room : List ℕ) → sizes_of program memory state room ≡ Ok tt → Fits program memory state room
 fits program memory state room e =
     let (p, more) = otherwise_good _ _ e in
     let (m, most) = otherwise_good _ _ more in
@@ -39,7 +39,7 @@ fits program memory state room e =
       room = eqb-true _ _ (not-false _ (refused_if_good _ _ r));
     }
 
-pub fit_sizes : {p m s r : List ℕ} → Fits p m s r → sizes_of p m s r ≡ Good
+pub fit_sizes : {p m s r : List ℕ} → Fits p m s r → sizes_of p m s r ≡ Ok tt
 fit_sizes {p} {m} {s} {r} f = rw (f.program, le-ltb 65536 (length m) f.memory, eq-eqb (length s) 2888 f.state, eq-eqb (length r) 12 f.room)
 
 -- a program has at most 4,096 syllables

@@ -10,6 +10,7 @@ use Rattle.word.specs.Bytes.{AreBytes, put_number}
 use Rattle.vliw.specs.Run.{Step, run}
 use Rattle.vliw.specs.Cell.{Cell, Registers, aged, rested}
 use Rattle.vliw.specs.Machine.{Dest, Out, fault, stop, go, Instruction, uses, any_busy, writes, in_order, Situation, stores, finish, step}
+use Rattle.vliw.specs.declared.Fault.{Fault}
 use Rattle.vliw.specs.declared.Fault.TheVariants.{StoresClash, BadLink}
 use Rattle.vliw.proofs.Lists.{set_each}
 use Rattle.vliw.proofs.Runs.{Keeps, run_ends}
@@ -21,9 +22,9 @@ use Rattle.isa.proofs.Instructions.{start_inside, following_within}
 use Rattle.tables.specs.Bounds.{Bounds}
 use Rattle.tables.proofs.Bounds.{delay_bounds}
 use Rattle.loader.specs.Passed.{Passed}
-use Rattle.memory.specs.Memory.{Store, any_share}
-use Rattle.memory.specs.declared.FirstFault.{FirstFault}
-use Rattle.memory.specs.declared.FirstFault.TheVariants.{None, First}
+use Rattle.std.specs.Prelude.{Option, None, Some}
+use Rattle.memory.specs.Memory.{any_share}
+use Rattle.memory.specs.declared.Store.{Store}
 use Rattle.machine.specs.Link.{Memory, Change, storing, linking, change}
 use Rattle.machine.specs.Instruction.{Fired, fire, result_values, stores_of, fault_of, Next, calls, back, stops, next_of, faulted, goes_on, out_by, acts, instruction_of}
 use Rattle.machine.specs.Instruction.{at as goes_to}
@@ -82,9 +83,9 @@ module _ (ds : List Dest) (m : Memory) (es : List Fired) (h : AllTake ds (result
       let ss = stores_of (length m.bytes) es in
       by (fault_of (length m.bytes) es) _ (either_way (Took ds) (any_share ss) (fault StoresClash) (go (result_values m.bytes es) (map storing ss ++ cs) k) tt (h, low_stores ss cs low))
     where
-      by : (f : FirstFault) (otherwise : Out Change) → Took ds otherwise → Took ds (faulted f otherwise)
+      by : (f : Option Fault) (otherwise : Out Change) → Took ds otherwise → Took ds (faulted f otherwise)
       by None o t = t
-      by (First f) o t = tt
+      by (Some f) o t = tt
 
   took : (starts : ℕ → Bool) (j : ℕ) → j < 2 ^ 32 → (n : Next) → Took ds (out_by starts j n m es)
   took starts j low stops = tt

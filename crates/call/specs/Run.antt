@@ -1,23 +1,21 @@
 -- A call of run: refusals 1 to 8 and 10, then at most n instructions.
-use Rattle.std.specs.Prelude.{List, ℕ}
+use Rattle.std.specs.Prelude.{List, ℕ, Ok, Err}
 use Rattle.word.specs.Choice.{pick}
 use Rattle.word.specs.Bytes.{words}
 use Rattle.vliw.specs.Run.{Ran, run}
 use Rattle.vliw.specs.Machine.{Situation, in_order, step}
 use Rattle.tables.specs.Table.{table_of}
 use Rattle.refusals.specs.Broken.{bad_program_length, bad_memory_length, bad_state_length, bad_room_length}
-use Rattle.loader.specs.Load.{◌otherwise◌, refused_if, loaded_with}
+use Rattle.loader.specs.Load.{Loaded, ◌otherwise◌, refused_if, loaded_with}
 use Rattle.loader.specs.Answer.{room_with}
 use Rattle.loader.specs.declared.Refusal.TheVariants.{ProgramLength, MemoryLength, StateLength, RoomLength}
-use Rattle.loader.specs.declared.Loaded.{Loaded}
-use Rattle.loader.specs.declared.Loaded.TheVariants.{Good, Refused as NotLoaded}
 use Rattle.machine.specs.Link.{Memory, Change, memory_of, change}
 use Rattle.machine.specs.Instruction.{instruction_of}
 use Rattle.machine.specs.Image.{place_in, registers_in, link_in, image_of}
 use Rattle.machine.specs.Valid.{bad_state}
-use Rattle.call.specs.Reply.{reply_answer}
-use Rattle.call.specs.declared.Reply.{Reply}
-use Rattle.call.specs.declared.Reply.TheVariants.{Refused, BadState, Ended}
+use Rattle.call.specs.Reply.{Reply, reply_answer}
+use Rattle.call.specs.declared.Unrun.{Unrun}
+use Rattle.call.specs.declared.Unrun.TheVariants.{Refused, BadState}
 
 -- all that a call takes and may change
 pub record Call : Type 0 where
@@ -56,21 +54,21 @@ pub record Done : Type 0 where
   pub memory : List ℕ
 
 -- "1 to 10 execute nothing"
-abbrev pub refused : Reply → Call → Done
-refused y c = record { reply = y; state = c.state; memory = c.memory }
+abbrev pub refused : Unrun → Call → Done
+refused u c = record { reply = Err u; state = c.state; memory = c.memory }
 
 abbrev pub ended : Ran (Situation Memory Change) → Done
 ended r =
     let s = r.state in
     record {
-      reply = Ended r.ending (record { 0 = r.count }) (record { 0 = s.place });
+      reply = Ok (record { ending = r.ending; count = record { 0 = r.count }; place = record { 0 = s.place } });
       state = image_of s.place s.registers s.memory.link;
       memory = s.memory.bytes;
     }
 
 abbrev pub done_by : Loaded → Call → Done
-done_by (NotLoaded r) c = refused (Refused r) c
-done_by Good c = pick (bad_state (words c.program) c.state) (refused BadState c) (ended (ran_of c))
+done_by (Err r) c = refused (Refused r) c
+done_by (Ok tt) c = pick (bad_state (words c.program) c.state) (refused BadState c) (ended (ran_of c))
 
 -- 2: "program size; memory size; state image not 2,884 bytes; answer room not 12 bytes (in this order)"; by order 1 2,888
 abbrev pub sizes_of : List ℕ → List ℕ → List ℕ → List ℕ → Loaded

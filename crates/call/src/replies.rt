@@ -1,37 +1,11 @@
 // The answer of a reply.
-ghost use Rattle.std.specs.Prelude.{◌≡◌};
+ghost use Rattle.std.specs.Prelude.{◌≡◌, Ok, Err};
 ghost use Rattle.vliw.specs.Run.{number_of};
-ghost use Rattle.vliw.specs.declared.Ending.TheVariants.{Faulted};
-ghost use Rattle.loader.specs.Answer.{answer};
 ghost use Rattle.call.specs.Reply.{reply_answer};
 
-use crate::Reply;
-use isa::{Count, Place};
+use crate::{Ended, Unrun};
 use loader::Answer;
-use loader::answers::of_refusal;
 use vliw::{Ending, Fault};
-
-fn given(number: u32, count: Count, place: Place) -> Answer
-    ensures { result ≡ answer number count.0 place.0 }
-{
-    Answer {
-        number,
-        count: count.0,
-        place: place.0 as u64,
-    }
-}
-
-fn fault_number(f: Fault) -> u32
-    ensures { result ≡ number_of (Faulted f) }
-{
-    match f {
-        Fault::InFlight => 11,
-        Fault::Misaligned => 12,
-        Fault::OutOfBounds => 13,
-        Fault::StoresClash => 14,
-        Fault::BadLink => 17,
-    }
-}
 
 fn number(e: Ending) -> u32
     ensures { result ≡ number_of e }
@@ -39,16 +13,37 @@ fn number(e: Ending) -> u32
     match e {
         Ending::Paused => 0,
         Ending::Stopped => 255,
-        Ending::Faulted(f) => fault_number(f),
+        Ending::Faulted(Fault::InFlight) => 11,
+        Ending::Faulted(Fault::Misaligned) => 12,
+        Ending::Faulted(Fault::OutOfBounds) => 13,
+        Ending::Faulted(Fault::StoresClash) => 14,
+        Ending::Faulted(Fault::BadLink) => 17,
     }
 }
 
-pub fn of_reply(r: Reply) -> Answer
-    ensures { result ≡ reply_answer r }
-{
-    match r {
-        Reply::Refused(refusal) => of_refusal(refusal),
-        Reply::BadState => given(10, Count(0), Place(0)),
-        Reply::Ended(e, n, i) => given(number(e), n, i),
+impl From<Ended> for Answer {
+    ghost from_gives = { λ e a. a ≡ reply_answer (Ok e) };
+
+    fn from(e: Ended) -> Answer {
+        Answer {
+            number: number(e.ending),
+            count: e.count.0,
+            place: e.place.0 as u64,
+        }
+    }
+}
+
+impl From<Unrun> for Answer {
+    ghost from_gives = { λ u a. a ≡ reply_answer (Err u) };
+
+    fn from(u: Unrun) -> Answer {
+        match u {
+            Unrun::Refused(r) => r.into(),
+            Unrun::BadState => Answer {
+                number: 10,
+                count: 0,
+                place: 0,
+            },
+        }
     }
 }

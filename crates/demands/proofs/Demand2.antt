@@ -4,18 +4,15 @@ use mathlib.Core.Logic.{◌⊎◌, ⊎_elim}
 use mathlib.Core.List.{List}
 use Prim.Native.Nat.{ℕ}
 use native.Mathlib.Omega.{arith}
+use Rattle.std.specs.Prelude.{Ok, Err}
 use Rattle.word.specs.Bytes.{words}
 use Rattle.word.proofs.Choice.{never_both}
 use Rattle.tables.specs.Table.{table_of}
 use Rattle.loader.specs.Answer.{answer, load_answer}
 use Rattle.loader.specs.declared.Answer.{Answer}
-use Rattle.loader.specs.declared.Loaded.{Loaded}
-use Rattle.loader.specs.declared.Loaded.TheVariants.{Good, Refused}
-use Rattle.loader.specs.Load.{loaded_of}
-use Rattle.schedule.specs.Rule.{TooSoonAt, Says as Scheduled}
+use Rattle.loader.specs.Load.{Loaded, loaded_of}
+use Rattle.schedule.specs.Rule.{Verdict, TooSoonAt, Says as Scheduled}
 use Rattle.schedule.specs.Answer.{verdict_answer, AnswersBy}
-use Rattle.schedule.specs.declared.Verdict.{Verdict}
-use Rattle.schedule.specs.declared.Verdict.TheVariants as verdict
 use Rattle.call.specs.Run.{Call, Outcome, ran_of}
 use Rattle.demands.specs.Calls.{Pauses, Stops, Refuses, Faults}
 use Rattle.demands.specs.Exact.{nothing, LoadBreaks, CheckBreaks, RunBreaks, too_soon, Exact}
@@ -27,9 +24,9 @@ use Rattle.demands.proofs.Taken.{Answered, not_run, did_run, answered, taken_unb
 module _ (table program room : List ℕ) where
   load : (l : Loaded) → LoadSays table program room nothing l
       → let a = load_answer l in Exact (LoadBreaks table program room) (a.number ≡ 0) a
-  load Good (none free) =
+  load (Ok tt) (none free) =
       exact_none (answer 0 0 0) refl (λ h. omega (arith, h.0)) (λ k n i b. never_both (ten_left free (λ p q h. h) k n i b).1 refl)
-  load (Refused r) (first e f) = rw e (exact_first (λ z. omega (arith, z, numbers f.breaks)) f)
+  load (Err r) (first e f) = rw e (exact_first (λ z. omega (arith, z, numbers f.breaks)) f)
 
   -- ---- check
 
@@ -39,18 +36,18 @@ module _ (table program room : List ℕ) where
   nine : {n i : ℕ} → CheckBreaks table program room 9 n i → Soon n i
   nine (too_soon p q h) = h
 
-  by_verdict : (v : Verdict) → LoadSays table program room Soon Good → Scheduled (table_of table).delays (words program) v
+  by_verdict : (v : Verdict) → LoadSays table program room Soon (Ok tt) → Scheduled (table_of table).delays (words program) v
       → let a = verdict_answer v in Exact (CheckBreaks table program room) (a.number ≡ 0) a
-  by_verdict verdict.Good (none free) h =
+  by_verdict (Ok _) (none free) h =
       exact_none (answer 0 0 0) refl (λ h. omega (arith, h.0)) (λ k n i b. never_both (ten_left free h k n i b).1 refl)
-  by_verdict (verdict.TooSoon p q) (none free) (soon, lowest, place) =
+  by_verdict (Err _) (none free) (soon, lowest, place) =
       exact_first (λ z. omega (arith, z))
       (record { breaks = too_soon _ _ soon; before = free; lowest = λ m j b. lowest m j (nine b); place = λ j b. place j (nine b) })
 
   check : (l : Loaded) → LoadSays table program room Soon l → (a : Answer) → AnswersBy l table program a
       → Exact (CheckBreaks table program room) (a.number ≡ 0) a
-  check Good s a (v, h, e) = rw e (by_verdict v s h)
-  check (Refused r) (first e f) a h = rw (h ∙ e) (exact_first (λ z. omega (arith, z, numbers f.breaks)) f)
+  check (Ok tt) s a (v, h, e) = rw e (by_verdict v s h)
+  check (Err r) (first e f) a h = rw (h ∙ e) (exact_first (λ z. omega (arith, z, numbers f.breaks)) f)
 
 -- ---- run
 

@@ -9,6 +9,7 @@ use native.Mathlib.Omega.{arith}
 use lib.Dec.{ltb}
 use lib.ListN.{get_or-eq_default}
 use borrow.Author.Tests.{ltb-true, ltb-false}
+use Rattle.std.specs.Prelude.{Ok, Err}
 use Rattle.word.specs.Bytes.{words}
 use Rattle.word.proofs.Choice.{by_test, or_false}
 use Rattle.vliw.specs.Run.{number_of, Ran, view_ran}
@@ -21,17 +22,14 @@ use Rattle.isa.specs.Program.{is_start}
 use Rattle.tables.specs.Table.{table_of}
 use Rattle.tables.specs.Bounds.{Bounds}
 use Rattle.tables.proofs.Bounds.{bounds}
-use Rattle.loader.specs.Load.{loaded_of}
+use Rattle.loader.specs.Load.{Loaded, loaded_of}
 use Rattle.loader.specs.Answer.{answer, room_with}
 use Rattle.loader.specs.declared.Answer.{Answer}
-use Rattle.loader.specs.declared.Loaded.{Loaded}
-use Rattle.loader.specs.declared.Loaded.TheVariants.{Good, Refused}
 use Rattle.loader.specs.Passed.{Passed}
 use Rattle.loader.proofs.Refusals.{passed, accepted}
-use Rattle.schedule.specs.Rule.{Says}
+use Rattle.schedule.specs.Rule.{Verdict, Says}
 use Rattle.schedule.specs.Answer.{verdict_answer, AnswersBy}
-use Rattle.schedule.specs.declared.Verdict.{Verdict}
-use Rattle.schedule.specs.declared.Verdict.TheVariants as verdict
+use Rattle.std.specs.Prelude.{Ok, Err}
 use Rattle.machine.specs.Link.{Memory, Change, change}
 use Rattle.machine.specs.Image.{place_in, registers_in}
 use Rattle.machine.specs.Valid.{bad_state}
@@ -53,17 +51,17 @@ use Rattle.demands.proofs.Held.{begins, left_held}
 record Clear (table program : List ℕ) : Type 0 where
   passes : Passed (table_of table) (words program)
   within : Bounds (table_of table)
-  clean : Says (table_of table).delays (words program) verdict.Good
+  clean : Says (table_of table).delays (words program) (Ok tt)
 
 module _ (table program room : List ℕ) where
-  judged : (v : Verdict) → Says (table_of table).delays (words program) v → (verdict_answer v).number ≡ 0 → Says (table_of table).delays (words program) verdict.Good
-  judged verdict.Good h e = h
-  judged (verdict.TooSoon p q) h e = absurd (omega (arith, e))
+  judged : (v : Verdict) → Says (table_of table).delays (words program) v → (verdict_answer v).number ≡ 0 → Says (table_of table).delays (words program) (Ok tt)
+  judged (Ok _) h e = h
+  judged (Err _) h e = absurd (omega (arith, e))
 
   clear : (l : Loaded) → loaded_of table program room ≡ l → LoadSays table program room nothing l → (a : Answer) → AnswersBy l table program a
       → a.number ≡ 0 → Clear table program
-  clear (Refused r) e (first f g) a h z = absurd (omega (arith, numbers g.breaks, ap (λ (x : Answer). x.number) (h ∙ f), z))
-  clear Good e l a (v, says, h) z =
+  clear (Err r) e (first f g) a h z = absurd (omega (arith, numbers g.breaks, ap (λ (x : Answer). x.number) (h ∙ f), z))
+  clear (Ok tt) e l a (v, says, h) z =
       let k = accepted _ table program e in
       record {
         passes = passed (table_of table) (words program) k.tested;
@@ -164,8 +162,8 @@ module _ (c : Call) (l : Lent c) (p : Passes c.table c.program) (q : NothingInFl
   alike = by (found c) refl
     where
       by : (x : Loaded) → found c ≡ x → Alike (given (done_by x c) c.room) (given (done_by x other) c.room)
-      by (Refused r) e = record { number = refl; room = refl; memory = refl; place = refl; registers = refl; link = refl }
-      by Good e =
+      by (Err r) e = record { number = refl; room = refl; memory = refl; place = refl; registers = refl; link = refl }
+      by (Ok tt) e =
           ⊎_elim
           (λ b. rw b (record { number = refl; room = refl; memory = refl; place = refl; registers = refl; link = refl }))
           (λ b. rw b (both_run (record { good = e; valid = b })))

@@ -9,21 +9,18 @@ use native.Mathlib.Omega.{arith}
 use lib.Dec.{ltb}
 use lib.ListN.{get_or}
 use borrow.Author.Tests.{ltb-true, ltb-false}
+use Rattle.std.specs.Prelude.{Option, Some, None, Ok, Err}
 use Rattle.word.proofs.Choice.{by_test, never_both}
 use Rattle.isa.specs.Lowest.{lowest}
-use Rattle.isa.specs.declared.Found.{Found}
-use Rattle.isa.specs.declared.Found.TheVariants.{At, Nothing}
 use Rattle.isa.specs.declared.Place.{Place}
 use Rattle.isa.proofs.Lowest.{Lowest, lowest_is}
 use Rattle.tables.specs.Table.{bad_table}
 use Rattle.refusals.specs.Broken.{bad_program_length, bad_room_length}
-use Rattle.loader.specs.Load.{◌otherwise◌, refused_if, refused_at, tested_by, loaded_with, loaded_of}
+use Rattle.loader.specs.Load.{Loaded, ◌otherwise◌, refused_if, refused_at, tested_by, loaded_with, loaded_of}
 use Rattle.loader.specs.Answer.{answer, refusal_answer}
 use Rattle.loader.specs.declared.Refusal.{Refusal}
 use Rattle.loader.specs.declared.Refusal.TheVariants.{BadTable, ProgramLength, MemoryLength, StateLength, RoomLength, NoEnd, BadBits, BadCluster, TooWide, TwoWrites, BadControl}
 use Rattle.loader.specs.declared.Answer.{Answer}
-use Rattle.loader.specs.declared.Loaded.{Loaded}
-use Rattle.loader.specs.declared.Loaded.TheVariants.{Good, Refused}
 use Rattle.demands.specs.Exact.{Breaks, limit, wrong_length, no_end, bad_bits, bad_cluster, too_wide, two_writes, bad_control, too_soon, not_valid, First, Exact}
 
 -- ---- whatever breaks
@@ -93,8 +90,8 @@ module _ (table program : List ℕ) (p m s r : Bool) (TooSoon : ℕ → ℕ → 
 
   -- what the test of number k says: it breaks nowhere, or there first
   data Gives (k : ℕ) : Loaded → Type 0 where
-    clear : ((n j : ℕ) → ¬ B k n j) → Gives k Good
-    broken : {r : Refusal} {i : ℕ} → refusal_answer r ≡ answer k 0 i → B k 0 i → ((j : ℕ) → B k 0 j → i ≤ j) → Gives k (Refused r)
+    clear : ((n j : ℕ) → ¬ B k n j) → Gives k (Ok tt)
+    broken : {r : Refusal} {i : ℕ} → refusal_answer r ≡ answer k 0 i → B k 0 i → ((j : ℕ) → B k 0 j → i ≤ j) → Gives k (Err r)
 
   table_clear : bad_table table ≡ false → (n j : ℕ) → ¬ B 1 n j
   table_clear e n j (limit h) = never_both h e
@@ -145,9 +142,9 @@ module _ (table program : List ℕ) (p m s r : Bool) (TooSoon : ℕ → ℕ → 
       → ((i : ℕ) → i < n → f i ≡ true → B k 0 i) → ((i : ℕ) → B k 0 i → (i < n) × (f i ≡ true)) → Gives k (refused_at r (lowest f n))
   gives_lowest {k} r f n few e makes tells = by (lowest f n) (lowest_is f n)
     where
-      by : (x : Found) → Lowest f n x → Gives k (refused_at r x)
-      by (At i) h = broken (e i) (makes i.0 h.0 h.1) (λ j b. not_below (λ l. never_both (tells j b).1 (h.2 j l)))
-      by Nothing h = clear (λ c j b. let (l, t) = tells j (rw (uncounted b few) at b) in never_both t (h j l))
+      by : (x : Option Place) → Lowest f n x → Gives k (refused_at r x)
+      by (Some i) h = broken (e i) (makes i.0 h.0 h.1) (λ j b. not_below (λ l. never_both (tells j b).1 (h.2 j l)))
+      by None h = clear (λ c j b. let (l, t) = tells j (rw (uncounted b few) at b) in never_both t (h j l))
 
   -- ---- the order of the numbers
 
@@ -156,19 +153,19 @@ module _ (table program : List ℕ) (p m s r : Bool) (TooSoon : ℕ → ℕ → 
 
   -- what loading says: no number up to 8 breaks, or one breaks first
   pub data Says : Loaded → Type 0 where
-    none : Before 9 → Says Good
-    first : {r : Refusal} {k i : ℕ} → refusal_answer r ≡ answer k 0 i → First B k 0 i → Says (Refused r)
+    none : Before 9 → Says (Ok tt)
+    first : {r : Refusal} {k i : ℕ} → refusal_answer r ≡ answer k 0 i → First B k 0 i → Says (Err r)
 
   step : {k : ℕ} {x : Loaded} (y : Loaded) → Before k → Gives k x → (Before (suc k) → Says y) → Says (x otherwise y)
   step y free (clear h) more = more (λ l c j u. ⊎_elim (λ e. rw e (h c j)) (free l c j) (eq-or-lt_of_le (le_of_suc-le-suc u)))
   step y free (broken e b l) more = first e (record { breaks = b; before = free; lowest = λ c j b. zero-le; place = l })
 
-  otherwise_nothing : (x : Loaded) → x otherwise Good ≡ x
-  otherwise_nothing Good = refl
-  otherwise_nothing (Refused r) = refl
+  otherwise_nothing : (x : Loaded) → x otherwise (Ok tt) ≡ x
+  otherwise_nothing (Ok tt) = refl
+  otherwise_nothing (Err r) = refl
 
   last : {x : Loaded} → Before 8 → Gives 8 x → Says x
-  last {x} free g = rw (← otherwise_nothing x) (step Good free g none)
+  last {x} free g = rw (← otherwise_nothing x) (step (Ok tt) free g none)
 
   abbrev pub lengths_by : Loaded
   lengths_by = refused_if p ProgramLength otherwise refused_if m MemoryLength otherwise refused_if s StateLength otherwise refused_if r RoomLength

@@ -5,6 +5,7 @@ use mathlib.Core.Bool.{true, false}
 use mathlib.Core.List.{List}
 use Prim.Native.Nat.{ℕ, zero-le}
 use native.Mathlib.Omega.{arith}
+use Rattle.std.specs.Prelude.{Ok, Err}
 use Rattle.word.specs.Bytes.{words}
 use Rattle.word.proofs.Choice.{by_test, never_both}
 use Rattle.vliw.specs.Run.{number_of, Ran}
@@ -13,11 +14,9 @@ use Rattle.tables.specs.Table.{table_of}
 use Rattle.tables.specs.Bounds.{Bounds}
 use Rattle.tables.proofs.Bounds.{bounds}
 use Rattle.refusals.specs.Broken.{bad_program_length, bad_memory_length, bad_state_length, bad_room_length}
-use Rattle.loader.specs.Load.{loaded_with}
+use Rattle.loader.specs.Load.{Loaded, loaded_with}
 use Rattle.loader.specs.Answer.{answer}
 use Rattle.loader.specs.declared.Answer.{Answer}
-use Rattle.loader.specs.declared.Loaded.{Loaded}
-use Rattle.loader.specs.declared.Loaded.TheVariants.{Good, Refused}
 use Rattle.loader.specs.Passed.{Passed}
 use Rattle.loader.proofs.Refusals.{passed, Accepted, accepted}
 use Rattle.machine.specs.Link.{Memory, Change}
@@ -34,7 +33,7 @@ abbrev pub found : Call → Loaded
 found c = loaded_with (sizes_of c.program c.memory c.state c.room) c.table c.program
 
 pub record Taken (c : Call) : Type 0 where
-  pub good : found c ≡ Good
+  pub good : found c ≡ Ok tt
   pub valid : bad_state (words c.program) c.state ≡ false
 
 -- what a run leaves
@@ -66,7 +65,7 @@ module _ (c : Call) where
   refusals = says c.table c.program _ _ _ _ nothing _
 
   -- none up to 8 breaks, and run gives no 9: so 10 is the first if the state breaks it
-  invalid_first : Refusals Good → bad_state (words c.program) c.state ≡ true → First (RunBreaks c) 10 0 0
+  invalid_first : Refusals (Ok tt) → bad_state (words c.program) c.state ≡ true → First (RunBreaks c) 10 0 0
   invalid_first (none free) e =
       record {
         breaks = not_valid e;
@@ -75,15 +74,15 @@ module _ (c : Call) where
         place = λ j b. zero-le;
       }
 
-  nothing_breaks : Refusals Good → bad_state (words c.program) c.state ≡ false → (k n i : ℕ) → ¬ RunBreaks c k n i
+  nothing_breaks : Refusals (Ok tt) → bad_state (words c.program) c.state ≡ false → (k n i : ℕ) → ¬ RunBreaks c k n i
   nothing_breaks (none free) e k n i b = never_both (ten_left free (λ p q h. h) k n i b).1 e
 
   pub taken_unbroken : Taken c → (k n i : ℕ) → ¬ RunBreaks c k n i
   taken_unbroken t = nothing_breaks (rw t.good at refusals) t.valid
 
   answered_by : (l : Loaded) → found c ≡ l → Refusals l → let d = done_by l c in Answered c (reply_answer d.reply) (given d c.room)
-  answered_by (Refused r) e (first h f) = rw h (not_run f)
-  answered_by Good e f =
+  answered_by (Err r) e (first h f) = rw h (not_run f)
+  answered_by (Ok tt) e f =
       ⊎_elim
       (λ b. rw b (not_run (invalid_first f b)))
       (λ b. rw b (did_run (record { good = e; valid = b })))

@@ -1,8 +1,4 @@
 pub mod Answers
 pub mod Operators
-pub mod Factors
-pub mod Fields
-pub mod Hashes
-pub mod Filling
 pub mod Seeking
 pub mod Tables

@@ -5,32 +5,72 @@ ghost use Rattle.source.specs.Walk.{start};
 ghost use Rattle.source.specs.Labels.{gives};
 ghost use Rattle.source.specs.Reader.{hear};
 ghost use Rattle.source.specs.Seek.{seek};
-ghost use Rattle.evaluation.specs.Known.{hash_of, line_at, Tabled};
+ghost use Rattle.evaluation.specs.Known.{hash_of, line_at, Tabled, tabled_prop};
 ghost use Rattle.evaluation.specs.Evaluated.{labels_of};
 
-use source::reading;
-use source::seeking::{Seen, search};
+use source::reading::{line_length, read};
+use source::seeking::{Given, search};
 use source::walking::Walk;
-use values::Value;
+use values::{Fault, Value};
 
-#[derive(Clone, Copy)]
+// A label of the table: the place of its line, the hash of its name, and its value.
+#[derive(Clone, Copy, Default)]
 pub struct Known {
-    // labels in the table
-    pub n: usize,
-    // the line where the search goes on, and how far the text has come there
+    pub place: usize,
+    pub hash: u32,
+    pub value: usize,
+}
+
+// The labels of a text.
+#[derive(Clone, Copy)]
+pub struct Labels<'a> {
+    pub text: &'a [u8],
+    // the first ones
+    pub known: &'a [Known],
+    // the line where the search for the others goes on, and how far the text has come there
     pub at: usize,
-    pub count: usize,
-    pub opened: u32,
+    pub walk: Walk,
+    pub ghost tabled: { Tabled text.now known.now at walk } by { tabled_prop text.now known.now at walk },
+}
+
+impl<'a> Labels<'a> {
+    // Where the label of that name is first given.
+    pub fn find(&self, name: &[u8]) -> Option<Given>
+        ensures { result ≡ seek start 0 (lines_of self.now.text.now) name.now }
+    {
+        let h = hash(name);
+        for k in self.known {
+            if k.hash == h && is_given(self.text, k.place, name) {
+                return Some(Given {
+                    place: k.place,
+                    value: k.value,
+                });
+            }
+        }
+        search(self.text, self.at, self.walk, name)
+    }
+
+    // The value of a label.
+    pub fn value(&self, name: &[u8]) -> Value
+        ensures { result ≡ labels_of self.now.text.now name.now }
+    {
+        let Some(g) = self.find(name) else {
+            return Err(Fault::Missing);
+        };
+        if g.value < 1 << 31 {
+            Ok((1 << 31) + g.value as u32)
+        } else {
+            Err(Fault::Outside)
+        }
+    }
 }
 
 pub fn hash(name: &[u8]) -> u32
     ensures { result ≡ hash_of name.now }
 {
     let mut h = 0u64;
-    let mut i = 0;
-    while i < name.len() {
-        h = (h * 31 + name[i] as u64) % 4294967296;
-        i += 1;
+    for b in name {
+        h = (h * 31 + *b as u64) % (1 << 32);
     }
     h as u32
 }
@@ -40,66 +80,7 @@ fn is_given(text: &[u8], place: usize, name: &[u8]) -> bool
     requires { place ≤ length text.now }
     ensures { result ≡ gives name.now (hear (line_at text.now place)) }
 {
-    let n = reading::line_length(&text[place..]);
-    let end = place + n;
-    let l = reading::read(&text[place..end]);
-    reading::gives(&text[place..end], l, name)
-}
-
-// Where the label of that name is first given.
-pub fn find(
-    text: &[u8],
-    places: &[usize],
-    hashes: &[u32],
-    values: &[usize],
-    k: Known,
-    name: &[u8],
-) -> Seen
-    requires { Tabled text.now places.now hashes.now values.now k }
-    ensures { result ≡ seek start 0 (lines_of text.now) name.now }
-{
-    let h = hash(name);
-    let n = k.n;
-    let mut i = 0;
-    while i < n {
-        if hashes[i] == h {
-            let place = places[i];
-            if is_given(text, place, name) {
-                return Seen::At(place, values[i]);
-            }
-        }
-        i += 1;
-    }
-    search(
-        text,
-        k.at,
-        Walk {
-            count: k.count,
-            opened: k.opened,
-        },
-        name,
-    )
-}
-
-// The value of a label.
-pub fn value(
-    text: &[u8],
-    places: &[usize],
-    hashes: &[u32],
-    values: &[usize],
-    k: Known,
-    name: &[u8],
-) -> Value
-    requires { Tabled text.now places.now hashes.now values.now k }
-    ensures { result ≡ labels_of text.now name.now }
-{
-    match find(text, places, hashes, values, k, name) {
-        Seen::Nowhere => Value::Missing,
-        Seen::At(_, index) => {
-            if index < 2147483648 {
-                return Value::Is((2147483648 + index) as u32);
-            }
-            Value::Outside
-        }
-    }
+    let rest = &text[place..];
+    let n = line_length(rest);
+    read(&rest[..n]).gives(name)
 }

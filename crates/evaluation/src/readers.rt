@@ -1,240 +1,126 @@
 // Expressions: readers that call each other.
-ghost use Rattle.std.specs.Prelude.{◌≡◌, ℕ, ◌≤◌, length, drop};
-ghost use Rattle.tokens.specs.Tokens.{tokens};
+ghost use Rattle.std.specs.Prelude.{◌≡◌, List, ℕ, ◌≤◌, length, drop};
+ghost use Rattle.tokens.specs.Tokens.{Token, tokens};
 ghost use Rattle.expressions.specs.Grammar.{sign_at, star_at, star};
 ghost use Rattle.expressions.specs.Meaning.{signed, value_e, value_t, value_f};
 ghost use Rattle.expressions.specs.Reader.{got, map_got, read_e, read_t, read_f};
 ghost use Rattle.expressions.specs.Valued.{word_as, closed_by};
-ghost use Rattle.evaluation.specs.Known.{Tabled};
-ghost use Rattle.evaluation.specs.Evaluated.{labels_of, read_as, Inside, Stands, sign_of};
+ghost use Rattle.evaluation.specs.Evaluated.{labels_of, got_of, read_as, Inside, Stands, sign_of};
 
-use crate::labels;
-use crate::labels::Known;
+use crate::labels::Labels;
 use expressions::{is_label, is_number};
 use tokens::{Next, token_at};
 use values::Value;
 
-#[derive(Clone, Copy)]
-pub enum Read {
-    Bad,
-    // the place after it, and the value
-    At(usize, Value),
-}
-
-#[derive(Clone, Copy)]
-pub enum Operator {
-    No,
-    // the byte, and the place after it
-    At(u8, usize),
-}
-
-fn sign_at(line: &[u8], at: usize) -> Operator
+// A sign, and the place after it.
+fn sign_at(line: &[u8], at: usize) -> Option<(u8, usize)>
     requires { at ≤ length line.now }
     ensures { Stands sign_at sign_of line.now at result }
 {
     match token_at(line, at) {
-        Next::End => Operator::No,
-        Next::Word(_, _) => Operator::No,
-        Next::Mark(b, n) => {
-            if b == 43 {
-                return Operator::At(b, n);
-            }
-            if b == 45 {
-                return Operator::At(b, n);
-            }
-            Operator::No
-        }
+        Next::Mark(b, n) if b == b'+' || b == b'-' => Some((b, n)),
+        _ => None,
     }
 }
 
-fn star_at(line: &[u8], at: usize) -> Operator
+fn star_at(line: &[u8], at: usize) -> Option<(u8, usize)>
     requires { at ≤ length line.now }
     ensures { Stands star_at (λ (b : ℕ). star) line.now at result }
 {
     match token_at(line, at) {
-        Next::End => Operator::No,
-        Next::Word(_, _) => Operator::No,
-        Next::Mark(b, n) => {
-            if b == 42 {
-                return Operator::At(b, n);
-            }
-            Operator::No
-        }
+        Next::Mark(b, n) if b == b'*' => Some((b, n)),
+        _ => None,
     }
 }
 
 fn joined(b: u8, v: Value, w: Value) -> Value
     ensures { result ≡ signed (sign_of b) v w }
 {
-    if b == 43 {
-        return values::plus(v, w);
+    if b == b'+' {
+        values::plus(v, w)
+    } else {
+        values::minus(v, w)
     }
-    values::minus(v, w)
 }
 
 // The bracket that closes.
-fn closed(line: &[u8], at: usize, v: Value) -> Read
+fn closed(line: &[u8], at: usize, v: Value) -> Option<(usize, Value)>
     requires { at ≤ length line.now }
     ensures { (read_as line.now result ≡ closed_by (got v (tokens (drop at line.now)))) × Inside line.now at result }
 {
     match token_at(line, at) {
-        Next::End => Read::Bad,
-        Next::Word(_, _) => Read::Bad,
-        Next::Mark(b, n) => {
-            if b == 41 {
-                return Read::At(n, v);
-            }
-            Read::Bad
-        }
+        Next::Mark(b, n) if b == b')' => Some((n, v)),
+        _ => None,
     }
 }
 
-// A word as a factor, whose end is `at`.
-fn word(
-    line: &[u8],
-    text: &[u8],
-    places: &[usize],
-    hashes: &[u32],
-    values: &[usize],
-    k: Known,
-    w: &[u8],
-    at: usize,
-) -> Read
-    requires tabled { Tabled text.now places.now hashes.now values.now k }
-    requires at_in_bounds { at ≤ length line.now }
-    ensures { (read_as line.now result ≡ word_as (labels_of text.now) w.now (tokens (drop at line.now)))
-        × Inside line.now at result }
+// A word as a factor.
+fn word(w: &[u8], labels: &Labels<'_>) -> Option<Value>
+    ensures { (ts : List Token) → got_of result ts ≡ word_as (labels_of labels.now.text.now) w.now ts }
 {
     if is_number(w) {
-        let v = values::number(w);
-        return Read::At(at, v);
+        Some(values::number(w))
+    } else if is_label(w) {
+        Some(labels.value(w))
+    } else {
+        None
     }
-    if is_label(w) {
-        let v = labels::value(text, places, hashes, values, k, w);
-        return Read::At(at, v);
-    }
-    Read::Bad
 }
 
+// Three readers, and none for two of them: term and expression differ in all that their clauses name, grammar, value and the reader below.
+
+// The place after a factor, and its value.
 #[cycle(expression_factor_term)]
-pub fn factor(
-    line: &[u8],
-    text: &[u8],
-    places: &[usize],
-    hashes: &[u32],
-    values: &[usize],
-    k: Known,
-    at: usize,
-    depth: u32,
-) -> Read
-    requires tabled { Tabled text.now places.now hashes.now values.now k }
-    requires at_in_bounds { at ≤ length line.now }
+pub fn factor(line: &[u8], labels: &Labels<'_>, at: usize, depth: u32) -> Option<(usize, Value)>
+    requires { at ≤ length line.now }
     ensures { (read_as line.now result
-        ≡ map_got (value_f (labels_of text.now)) (read_f depth (tokens (drop at line.now))))
+        ≡ map_got (value_f (labels_of labels.now.text.now)) (read_f depth (tokens (drop at line.now))))
         × Inside line.now at result }
 {
     match token_at(line, at) {
-        Next::End => Read::Bad,
-        Next::Word(from, to) => word(line, text, places, hashes, values, k, &line[from..to], to),
+        Next::End => None,
+        Next::Word(from, to) => {
+            let v = word(&line[from..to], labels)?;
+            Some((to, v))
+        }
         Next::Mark(b, n) => {
-            if b != 40 {
-                return Read::Bad;
+            if b != b'(' || depth == 0 {
+                return None;
             }
-            if depth == 0 {
-                return Read::Bad;
-            }
-            match expression(line, text, places, hashes, values, k, n, depth - 1) {
-                Read::Bad => Read::Bad,
-                Read::At(m, v) => closed(line, m, v),
-            }
+            let (m, v) = expression(line, labels, n, depth - 1)?;
+            closed(line, m, v)
         }
     }
 }
 
 #[cycle(expression_factor_term)]
-pub fn term(
-    line: &[u8],
-    text: &[u8],
-    places: &[usize],
-    hashes: &[u32],
-    values: &[usize],
-    k: Known,
-    at: usize,
-    depth: u32,
-) -> Read
-    requires tabled { Tabled text.now places.now hashes.now values.now k }
-    requires at_in_bounds { at ≤ length line.now }
+pub fn term(line: &[u8], labels: &Labels<'_>, at: usize, depth: u32) -> Option<(usize, Value)>
+    requires { at ≤ length line.now }
     ensures { (read_as line.now result
-        ≡ map_got (value_t (labels_of text.now)) (read_t depth (tokens (drop at line.now))))
+        ≡ map_got (value_t (labels_of labels.now.text.now)) (read_t depth (tokens (drop at line.now))))
         × Inside line.now at result }
 {
-    match factor(line, text, places, hashes, values, k, at, depth) {
-        Read::Bad => Read::Bad,
-        Read::At(m, w) => {
-            let mut p = m;
-            let mut v = w;
-            loop {
-                match star_at(line, p) {
-                    Operator::No => {
-                        return Read::At(p, v);
-                    }
-                    Operator::At(_, q) => match factor(
-                        line, text, places, hashes, values, k, q, depth,
-                    ) {
-                        Read::Bad => {
-                            return Read::Bad;
-                        }
-                        Read::At(n, x) => {
-                            v = values::times(v, x);
-                            p = n;
-                        }
-                    },
-                }
-            }
-        }
+    let (mut p, mut v) = factor(line, labels, at, depth)?;
+    while let Some((_, q)) = star_at(line, p) {
+        let (n, x) = factor(line, labels, q, depth)?;
+        v = values::times(v, x);
+        p = n;
     }
+    Some((p, v))
 }
 
 #[cycle(expression_factor_term)]
-pub fn expression(
-    line: &[u8],
-    text: &[u8],
-    places: &[usize],
-    hashes: &[u32],
-    values: &[usize],
-    k: Known,
-    at: usize,
-    depth: u32,
-) -> Read
-    requires tabled { Tabled text.now places.now hashes.now values.now k }
-    requires at_in_bounds { at ≤ length line.now }
+pub fn expression(line: &[u8], labels: &Labels<'_>, at: usize, depth: u32) -> Option<(usize, Value)>
+    requires { at ≤ length line.now }
     ensures { (read_as line.now result
-        ≡ map_got (value_e (labels_of text.now)) (read_e depth (tokens (drop at line.now))))
+        ≡ map_got (value_e (labels_of labels.now.text.now)) (read_e depth (tokens (drop at line.now))))
         × Inside line.now at result }
 {
-    match term(line, text, places, hashes, values, k, at, depth) {
-        Read::Bad => Read::Bad,
-        Read::At(m, w) => {
-            let mut p = m;
-            let mut v = w;
-            loop {
-                match sign_at(line, p) {
-                    Operator::No => {
-                        return Read::At(p, v);
-                    }
-                    Operator::At(b, q) => match term(
-                        line, text, places, hashes, values, k, q, depth,
-                    ) {
-                        Read::Bad => {
-                            return Read::Bad;
-                        }
-                        Read::At(n, x) => {
-                            v = joined(b, v, x);
-                            p = n;
-                        }
-                    },
-                }
-            }
-        }
+    let (mut p, mut v) = term(line, labels, at, depth)?;
+    while let Some((b, q)) = sign_at(line, p) {
+        let (n, x) = term(line, labels, q, depth)?;
+        v = joined(b, v, x);
+        p = n;
     }
+    Some((p, v))
 }

@@ -9,7 +9,7 @@ use borrow.Author.Tests.{ne_eqb}
 use lib.Dec.{eqb}
 use Rattle.word.specs.Choice.{pick}
 use Rattle.tokens.specs.Tokens.{Token, Word, Mark}
-use Rattle.values.specs.declared.Value.{Value}
+use Rattle.values.specs.Values.{Value}
 use Rattle.expressions.specs.Grammar.{Sign, Star, Expression, expression, no_terms, more_terms, term, no_factors, more_factors, number, label, brackets, is_number, is_label, sign_at, star_at, first}
 use Rattle.expressions.specs.Meaning.{signed, starred, value_e, value_ts, value_t, value_fs, value_f}
 use Rattle.expressions.specs.Reader.{Got, bad, got, map_got, closed, read_e, read_ts, read_t, read_fs, read_f, factor_by, term_by, in_brackets}

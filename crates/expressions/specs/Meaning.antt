@@ -1,7 +1,6 @@
 -- What an expression comes to, from the left, where `env` has the labels' values.
 use Rattle.std.specs.Prelude.{List, ℕ}
-use Rattle.values.specs.Values.{add, sub, mul, both, decimal}
-use Rattle.values.specs.declared.Value.{Value}
+use Rattle.values.specs.Values.{Value, add, sub, mul, both, decimal}
 use Rattle.expressions.specs.Grammar.{Sign, plus, minus, Star, Expression, expression, Terms, no_terms, more_terms, Term, term, Factors, no_factors, more_factors, Factor, number, label, brackets}
 
 abbrev pub signed : Sign → Value → Value → Value

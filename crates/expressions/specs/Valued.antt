@@ -2,8 +2,7 @@
 use Rattle.std.specs.Prelude.{List, [], ◌∷◌, ℕ, eqb}
 use Rattle.word.specs.Choice.{pick}
 use Rattle.tokens.specs.Tokens.{Token, Word, Mark}
-use Rattle.values.specs.Values.{decimal}
-use Rattle.values.specs.declared.Value.{Value}
+use Rattle.values.specs.Values.{Value, decimal}
 use Rattle.expressions.specs.Grammar.{is_number, is_label}
 use Rattle.expressions.specs.Reader.{Got, bad, got}
 

@@ -10,67 +10,44 @@ ghost use Rattle.expressions.specs.Promise.{Unique, Exact};
 
 use tokens::{Next, token_at};
 
-#[derive(Clone, Copy)]
-pub enum End {
-    Nowhere,
-    // the place after it
-    At(usize),
-}
-
 fn is_decimal(b: u8) -> bool
     ensures { result ≡ is_decimal b }
 {
-    (48 <= b) & (b <= 57)
+    matches!(b, b'0'..=b'9')
 }
 
 fn is_letter(b: u8) -> bool
     ensures { result ≡ is_letter b }
 {
-    (((65 <= b) & (b <= 90)) | ((97 <= b) & (b <= 122))) | (b == 95)
+    matches!(b, b'A'..=b'Z' | b'a'..=b'z' | b'_')
 }
 
 pub fn is_number(w: &[u8]) -> bool
     ensures { result ≡ is_number w.now }
 {
-    if w.len() == 0 {
-        return false;
-    }
-    let mut i = 0;
-    while i < w.len() {
-        if !is_decimal(w[i]) {
-            return false;
-        }
-        i += 1;
-    }
-    true
+    w.len() != 0 && w.iter().all(|b| is_decimal(*b))
 }
 
 pub fn is_label(w: &[u8]) -> bool
     ensures { result ≡ is_label w.now }
 {
-    if w.len() == 0 {
-        return false;
-    }
-    is_letter(w[0])
+    matches!(w, [b, ..] if is_letter(*b))
 }
 
 fn is_factor(w: &[u8]) -> bool
     ensures { result ≡ is_factor w.now }
 {
-    if is_number(w) {
-        return true;
-    }
-    is_label(w)
+    is_number(w) || is_label(w)
 }
 
 fn is_operator(b: u8) -> bool
     ensures { result ≡ is_operator b }
 {
-    ((b == 43) | (b == 45)) | (b == 42)
+    matches!(b, b'+' | b'-' | b'*')
 }
 
 // Where the expression that begins at `at` ends: `open` brackets are open, and `first` says that a factor is to come.
-pub fn skip(line: &[u8], at: usize) -> End
+pub fn skip(line: &[u8], at: usize) -> Option<usize>
     requires { at ≤ length line.now }
     ensures { (passed line.now result ≡ map_got (λ _. tt) (read_e 16 (tokens (drop at line.now)))) × Within line.now at result }
 {
@@ -79,53 +56,40 @@ pub fn skip(line: &[u8], at: usize) -> End
     let mut first = true;
     loop {
         match token_at(line, p) {
-            Next::End => {
-                if first {
-                    return End::Nowhere;
+            Next::End if first => return None,
+            Next::Word(from, to) if first => {
+                if !is_factor(&line[from..to]) {
+                    return None;
                 }
-                if open == 0 {
-                    return End::At(p);
-                }
-                return End::Nowhere;
+                first = false;
+                p = to;
             }
-            Next::Word(from, to) => {
-                if first {
-                    if !is_factor(&line[from..to]) {
-                        return End::Nowhere;
-                    }
-                    first = false;
-                    p = to;
-                } else {
-                    if open == 0 {
-                        return End::At(p);
-                    }
-                    return End::Nowhere;
+            Next::Mark(b, n) if first => {
+                if b != b'(' {
+                    return None;
                 }
+                if open == 16 {
+                    return None;
+                }
+                open += 1;
+                p = n;
+            }
+            Next::Mark(b, n) if is_operator(b) => {
+                first = true;
+                p = n;
             }
             Next::Mark(b, n) => {
-                if first {
-                    if b != 40 {
-                        return End::Nowhere;
-                    }
-                    if open == 16 {
-                        return End::Nowhere;
-                    }
-                    open += 1;
-                    p = n;
-                } else if is_operator(b) {
-                    first = true;
-                    p = n;
-                } else {
-                    if open == 0 {
-                        return End::At(p);
-                    }
-                    if b != 41 {
-                        return End::Nowhere;
-                    }
-                    open -= 1;
-                    p = n;
+                if open == 0 {
+                    return Some(p);
                 }
+                if b != b')' {
+                    return None;
+                }
+                open -= 1;
+                p = n;
             }
+            _ if open == 0 => return Some(p),
+            _ => return None,
         }
     }
 }

@@ -3,7 +3,7 @@ use mathlib.Core.Path.{◌≡◌, refl, sym, ◌∙◌}
 use mathlib.Core.Bool.{Bool, false, ◌||◌}
 use mathlib.Core.Bool.{or-false as or_nothing}
 use mathlib.Core.List.{List, [], ◌∷◌, ◌++◌, map, map-append}
-use Prim.Native.Nat.{ℕ, suc, ◌+◌, ◌-◌, ◌≤◌, ◌<◌}
+use Prim.Native.Nat.{ℕ, ◌+◌, ◌-◌, ◌≤◌, ◌<◌}
 use native.Mathlib.Numerals.{add-one}
 use native.Mathlib.Omega.{arith}
 use lib.Dec.{eqb, ltb}
@@ -20,22 +20,22 @@ use Rattle.isa.specs.Decode.{decode}
 use Rattle.isa.specs.Program.{nowhere, spots, spot_at, spot_before, operation}
 use Rattle.isa.specs.Syllable.{opens}
 use Rattle.isa.specs.declared.Op.{Op}
-use Rattle.isa.specs.declared.Spot.{Spot}
 use Rattle.isa.specs.declared.Place.{Place}
 use Rattle.isa.specs.declared.Delays.{Delays}
 use Rattle.isa.proofs.Instructions.{spots_length, spot_syllable, opened_inside}
 use Rattle.machine.specs.Instruction.{Fired, fire}
-use Rattle.ticks.specs.Ticks.{views, Bank, Results}
-use Rattle.gather.specs.Gather.{op_busy, Own, Formed, named_late, op_late, fire_at, Scratch, Acts, Does, fired, Came, Gathered}
+use Rattle.ticks.specs.Ticks.{register_at, views, Bank}
+use Rattle.ticks.specs.declared.Register.{Register}
+use Rattle.gather.specs.Scratch.{Scratch}
+use Rattle.gather.specs.Gather.{op_busy, Own, named_late, op_late, fire_at, Acts, Does, fired, Came, Gathered}
 use Rattle.memory.specs.Memory.{◌or_else◌}
-use Rattle.memory.specs.Held.{stores_in, Stores}
-use Rattle.memory.specs.declared.FirstFault.{FirstFault}
-use Rattle.memory.specs.declared.FirstFault.TheVariants.{None, First}
+use Rattle.std.specs.Prelude.{Option, None, Some}
+use Rattle.std.proofs.lemmas.List.Elements.{All-nil}
+use Rattle.vliw.specs.declared.Fault.{Fault}
 use Rattle.gather.specs.declared.Seen.{Seen}
 use Rattle.gather.specs.declared.Course.TheVariants.{Open}
 use Rattle.machine.proofs.Phases.{dests_append, values_append, stores_of_append, fault_of_append}
 use Rattle.gather.proofs.OnePass.{next_from_append}
-use Rattle.gather.proofs.Opcodes.{formed}
 use Rattle.ticks.proofs.Views.{view_read, view_late, made_value}
 
 -- ---- operations
@@ -43,9 +43,9 @@ use Rattle.ticks.proofs.Views.{view_read, view_late, made_value}
 free_before : (x y : Bool) → x || y ≡ false → x ≡ false
 free_before x y h = (or_false x y h).0
 
-first_none : (f g : FirstFault) → f or_else g ≡ None → f ≡ None
+first_none : (f g : Option Fault) → f or_else g ≡ None → f ≡ None
 first_none None g h = refl
-first_none (First f) g h = h
+first_none (Some f) g h = h
 
 module _ (firing : Op → Fired) (same : (o : Op) → (firing o).op ≡ o) {d : Delays} {m : List ℕ} {j : ℕ} where
   more : {os : List Op} {o : Op} {s r : Seen} {a b : Scratch} → Came d m j os (map firing os) s a → Acts d m j (firing o) s a r b
@@ -66,16 +66,15 @@ module _ (firing : Op → Fired) (same : (o : Op) → (firing o).op ≡ o) {d : 
       }
 
 module _ {late : Op → Bool} {firing : Op → Fired} {d : Delays} {m : List ℕ} {j : ℕ} where
-  pub gathered_none : {a : Scratch} {q : Place} → Results a.regs a.vals a.dels 0 → Stores a.ats a.words a.sizes 0 (length m)
-      → Gathered late firing d m j [] (record { busy = false; fault = None; results = 0; stores = 0; course = Open; place = q }) a
-  unfolding stores_in
-  gathered_none h k =
+  pub gathered_none : {a : Scratch} {q : Place} → a.results ≡ [] → a.stores ≡ []
+      → Gathered late firing d m j [] (record { busy = false; course = Open; fault = None; place = q }) a
+  gathered_none {a} e f =
       record {
         busy = refl;
-        holds = record { results = h; stores = k };
-        few = omega arith;
-        fewer = omega arith;
-        came = λ _. record { fault = refl; next = λ n. refl; lists = λ _. record { dests = refl; values = refl; stores = refl } };
+        holds = record { results = rw e (record { few = omega arith; register = All-nil _; delay = All-nil _ }); stores = rw f (All-nil _) };
+        few = rw e (omega arith);
+        fewer = rw f (omega arith);
+        came = λ _. record { fault = refl; next = λ n. refl; lists = λ _. record { dests = rw e refl; values = rw e refl; stores = f } };
       }
 
   pub gathered_more : ((o : Op) → (firing o).op ≡ o) → {os : List Op} {o : Op} {s r : Seen} {a b : Scratch} → Gathered late firing d m j os s a → Does (late o) d m j (firing o) s a r b
@@ -111,7 +110,7 @@ module _ (ws : List ℕ) (z : Own (spots ws)) (j : ℕ) (h : j < length ws) wher
   -- two results and a store have room
   pub room : {late : Op → Bool} {firing : Op → Fired} {d : Delays} {m : List ℕ} {i : ℕ} {s : Seen} {a : Scratch}
       → Gathered late firing d m i (map operation (take j (spots ws))) s a
-      → (s.results < 63) × (s.stores < 32)
+      → (length a.results < 63) × (length a.stores < 32)
   room k =
       let e : length (map operation (take j (spots ws))) ≡ j = length-map (take j (spots ws)) _ ∙ length-take-le j (spots ws) (omega (arith, spots_length ws)) in
       (omega (arith, k.few, z.few, spots_length ws), omega (arith, k.fewer, z.few, spots_length ws))
@@ -121,59 +120,49 @@ operations_all ws n h = rw (take_all n (spots ws) (rw spots_length h))
 
 -- ---- by the machine's registers
 
-module _ {t : ℕ} {vs os rs ls : List ℕ} (b : Bank t vs os rs ls) (idle : (at (views t vs os rs ls) 0).busy ≡ 0) where
+module _ {t : ℕ} {rs : List Register} (b : Bank t rs) (idle : (at (views t rs) 0).busy ≡ 0) where
   abbrev l : Registers
-  l = views t vs os rs ls
+  l = views t rs
 
   -- register 0, which stands for none, is never in flight
-  named : (r : ℕ) → ltb t (get_or rs r 0) ≡ named_late t rs r
+  named : (r : ℕ) → ltb t (register_at rs r).ready ≡ named_late t rs r
   named r =
       ⊎_elim
-      (λ e. rw (eqb-true r 0 e) (sym (view_late b.sizes t 0 (omega arith)) ∙ rw idle))
+      (λ e. rw (eqb-true r 0 e) (sym (view_late t rs 0) ∙ rw idle))
       (λ e. rw e)
       (by_test (eqb r 0))
 
-  module _ {o : Op} (f : Formed o) where
-    late_at_lem : op_busy l o ≡ op_late t rs o
-    late_at_lem =
-        let z = b.sizes in
-        rw (view_late z t o.s1 f.s1, view_late z t o.s2 f.s2, view_late z t o.b f.b, view_late z t o.stored f.stored, view_late z t o.t f.t, view_late z t o.carry f.carry, ← named o.b, ← named o.stored, ← named o.carry)
+  late_at_lem : (o : Op) → op_busy l o ≡ op_late t rs o
+  late_at_lem o =
+      rw (view_late t rs o.s1, view_late t rs o.s2, view_late t rs o.b, view_late t rs o.stored, view_late t rs o.t, view_late t rs o.carry, ← named o.b, ← named o.stored, ← named o.carry)
 
-    value_at_lem : (r : ℕ) → r < 288 → ltb t (get_or rs r 0) ≡ false → get_or (map (λ (c : Cell). c.value) l) r 0 ≡ get_or vs r 0
-    value_at_lem r h e = view_read b.sizes t r h ∙ made_value b r e
+  value_at_lem : (r : ℕ) → ltb t (register_at rs r).ready ≡ false → get_or (map (λ (c : Cell). c.value) l) r 0 ≡ (register_at rs r).value
+  value_at_lem r e = view_read t rs r ∙ made_value b r e
 
-    fire_at_lem : op_late t rs o ≡ false → fire (map (λ (c : Cell). c.value) l) o ≡ fire_at vs o
-    fire_at_lem e =
-        let (e₅, _) = or_false _ (named_late t rs o.carry) e in
-        let (e₄, _) = or_false _ (ltb t (get_or rs o.t 0)) e₅ in
-        let (e₃, s) = or_false _ (named_late t rs o.stored) e₄ in
-        let (e₂, r) = or_false _ (named_late t rs o.b) e₃ in
-        let (p, q) = or_false (ltb t (get_or rs o.s1 0)) (ltb t (get_or rs o.s2 0)) e₂ in
-        rw (value_at_lem o.s1 f.s1 p, value_at_lem o.s2 f.s2 q, value_at_lem o.b f.b (named o.b ∙ r), value_at_lem o.stored f.stored (named o.stored ∙ s))
+  fire_at_lem : (o : Op) → op_late t rs o ≡ false → fire (map (λ (c : Cell). c.value) l) o ≡ fire_at rs o
+  fire_at_lem o e =
+      let (e₅, _) = or_false _ (named_late t rs o.carry) e in
+      let (e₄, _) = or_false _ (ltb t (register_at rs o.t).ready) e₅ in
+      let (e₃, s) = or_false _ (named_late t rs o.stored) e₄ in
+      let (e₂, r) = or_false _ (named_late t rs o.b) e₃ in
+      let (p, q) = or_false (ltb t (register_at rs o.s1).ready) (ltb t (register_at rs o.s2).ready) e₂ in
+      rw (value_at_lem o.s1 p, value_at_lem o.s2 q, value_at_lem o.b (named o.b ∙ r), value_at_lem o.stored (named o.stored ∙ s))
 
-  -- of all operations that decoding gives
-  abbrev AllFormed : List Spot → Type 0
-  AllFormed xs = (k : ℕ) → k < length xs → Formed (operation (get_or xs k nowhere))
+  all_late : (os : List Op) → any (op_busy l) os ≡ any (op_late t rs) os
+  all_late [] = refl
+  all_late (o ∷ os) = rw (late_at_lem o, all_late os)
 
-  all_late : (xs : List Spot) → AllFormed xs → any (op_busy l) (map operation xs) ≡ any (op_late t rs) (map operation xs)
-  all_late [] f = refl
-  all_late (x ∷ xs) f = rw (late_at_lem (f 0 (omega arith)), all_late xs (λ k h. f (suc k) (omega arith)))
+  all_fire : (os : List Op) → any (op_late t rs) os ≡ false → fired l os ≡ map (fire_at rs) os
+  all_fire [] e = refl
+  all_fire (o ∷ os) e = let (p, q) = or_false (op_late t rs o) _ e in rw (fire_at_lem o p, all_fire os q)
 
-  all_fire : (xs : List Spot) → AllFormed xs → any (op_late t rs) (map operation xs) ≡ false → fired l (map operation xs) ≡ map (fire_at vs) (map operation xs)
-  all_fire [] f e = refl
-  all_fire (x ∷ xs) f e =
-      let (p, q) = or_false (op_late t rs (operation x)) _ e in
-      rw (fire_at_lem (f 0 (omega arith)) p, all_fire xs (λ k h. f (suc k) (omega arith)) q)
-
-  pub gathered_views : {xs : List Spot} → Own xs → {d : Delays} {m : List ℕ} {j : ℕ} {s : Seen} {a : Scratch}
-      → Gathered (op_late t rs) (fire_at vs) d m j (map operation xs) s a
-      → Gathered (op_busy l) (fire (map (λ (c : Cell). c.value) l)) d m j (map operation xs) s a
-  gathered_views {xs} z {d} {m} {j} {s} {a} k =
-      let f : AllFormed xs = λ i h. formed _ _ (omega (arith, (z.opened i h).1)) in
+  pub gathered_views : {d : Delays} {m : List ℕ} {j : ℕ} {os : List Op} {s : Seen} {a : Scratch} → Gathered (op_late t rs) (fire_at rs) d m j os s a
+      → Gathered (op_busy l) (fire (map (λ (c : Cell). c.value) l)) d m j os s a
+  gathered_views {os = os} k =
       record {
-        busy = rw (all_late xs f) k.busy;
+        busy = rw (all_late os) k.busy;
         holds = k.holds;
         few = k.few;
         fewer = k.fewer;
-        came = λ e. rw (all_fire xs f (sym k.busy ∙ e)) (k.came e);
+        came = λ e. rw (all_fire os (sym k.busy ∙ e)) (k.came e);
       }

@@ -1,5 +1,5 @@
 -- Private to the run's loop, nobody has to believe it: what one pass over an instruction's operations gathers, operation by operation.
-use Rattle.std.specs.Prelude.{Bool, false, not, ◌||◌, ◌&&◌, List, [], ◌∷◌, ◌++◌, map, ◌≡◌, ℕ, suc, ◌+◌, ◌*◌, ◌≤◌, ◌<◌, eqb, ltb, length, get_or}
+use Rattle.std.specs.Prelude.{Bool, false, not, ◌||◌, ◌&&◌, List, [], ◌∷◌, ◌++◌, map, ◌≡◌, ℕ, suc, ◌+◌, ◌*◌, ◌≤◌, ◌<◌, eqb, ltb, length, get_or, None}
 use Rattle.word.specs.Choice.{pick}
 use Rattle.word.specs.Lists.{any}
 use Rattle.ops.specs.Value.{value, carry}
@@ -16,11 +16,14 @@ use Rattle.isa.specs.declared.Place.{Place}
 use Rattle.isa.specs.declared.Way.TheVariants.{Along}
 use Rattle.isa.specs.declared.Turn.{Turn}
 use Rattle.isa.specs.declared.Turn.TheVariants.{Onward, Stops, To, Calls, Back as BackTo}
-use Rattle.memory.specs.Memory.{◌or_else◌, Store}
-use Rattle.memory.specs.Held.{stores_in, Stores}
-use Rattle.memory.specs.declared.FirstFault.TheVariants.{None}
+use Rattle.memory.specs.Memory.{◌or_else◌}
+use Rattle.memory.specs.Held.{Stores}
+use Rattle.memory.specs.declared.Store.{Store}
 use Rattle.machine.specs.Instruction.{Fired, fire, value_in, result_values, stores_of, fault_of, Next, next_by}
-use Rattle.ticks.specs.Ticks.{dests_in, values_in, Results}
+use Rattle.ticks.specs.Ticks.{register_at, dests_in, values_in, Results}
+use Rattle.ticks.specs.declared.Register.{Register}
+use Rattle.ticks.specs.declared.Made.{Made}
+use Rattle.gather.specs.Scratch.{Scratch}
 use Rattle.gather.specs.declared.Seen.{Seen}
 use Rattle.gather.specs.declared.Course.{Course}
 use Rattle.gather.specs.declared.Course.TheVariants.{Open, Stop, Set, Call, Back}
@@ -57,9 +60,9 @@ abbrev pub Timely : Delays → Type 0
 Timely d = (o r : ℕ) → (0 < delay_of d o r) × (delay_of d o r ≤ 8)
 
 -- at tick t register 0 is not in flight, and no other is unless it is said so
-pub record Flying (flying : Bool) (t : ℕ) (rs : List ℕ) : Type 0 where
-  pub nothing : get_or rs 0 0 ≤ t
-  pub others : flying ≡ false → (r : ℕ) → get_or rs r 0 ≤ t
+pub record Flying (flying : Bool) (t : ℕ) (rs : List Register) : Type 0 where
+  pub nothing : (register_at rs 0).ready ≤ t
+  pub others : flying ≡ false → (r : ℕ) → (register_at rs r).ready ≤ t
 
 -- the opcodes of nop, stop, call, return, goto, br and brf
 abbrev pub is_turn : ℕ → Bool
@@ -80,22 +83,22 @@ pub record Formed (o : Op) : Type 0 where
   pub along : is_turn o.opcode ≡ false → o.way ≡ Along
 
 -- `opBusy` by the loop's registers at tick t, and `fire` of an operation with none in flight
-abbrev pub named_late : ℕ → List ℕ → ℕ → Bool
-named_late t rs r = not (eqb r 0) && ltb t (get_or rs r 0)
+abbrev pub named_late : ℕ → List Register → ℕ → Bool
+named_late t rs r = not (eqb r 0) && ltb t (register_at rs r).ready
 
-abbrev pub op_late : ℕ → List ℕ → Op → Bool
+abbrev pub op_late : ℕ → List Register → Op → Bool
 op_late t rs o =
-    ltb t (get_or rs o.s1 0) || ltb t (get_or rs o.s2 0) || named_late t rs o.b || named_late t rs o.stored
-    || ltb t (get_or rs o.t 0) || named_late t rs o.carry
+    ltb t (register_at rs o.s1).ready || ltb t (register_at rs o.s2).ready || named_late t rs o.b || named_late t rs o.stored
+    || ltb t (register_at rs o.t).ready || named_late t rs o.carry
 
-abbrev pub fire_at : List ℕ → Op → Fired
-fire_at vs o =
+abbrev pub fire_at : List Register → Op → Fired
+fire_at rs o =
     record {
       op = o;
-      x = get_or vs o.s1 0;
-      y = pick (eqb o.s2 0) o.immediate (get_or vs o.s2 0);
-      b = get_or vs o.b 0;
-      stored = get_or vs o.stored 0;
+      x = (register_at rs o.s1).value;
+      y = pick (eqb o.s2 0) o.immediate (register_at rs o.s2).value;
+      b = (register_at rs o.b).value;
+      stored = (register_at rs o.stored).value;
     }
 
 -- ---- one operation
@@ -112,53 +115,41 @@ computed_of opcode x y z = pick (is_copy opcode) x (value opcode x y z)
 abbrev pub values_by : Fired → ℕ → List ℕ
 values_by e v = value_in e.op.t v (value_in e.op.carry (carry e.x e.y e.b) [])
 
--- of n results three arrays come to hold k, at most `more` of them new: those to es, with the values us
-pub record Noted (more : ℕ) (gs vs ds : List ℕ) (n : ℕ) (hs ws cs : List ℕ) (k : ℕ) (es : List Dest) (us : List ℕ) : Type 0 where
-  pub results : Results hs ws cs k
-  pub few : k ≤ n + more
-  pub dests : dests_in hs cs k ≡ dests_in gs ds n ++ es
-  pub values : values_in ws k ≡ values_in vs n ++ us
+-- to the results ms at most `more` are added: those to es, with the values us
+pub record Noted (more : ℕ) (ms ns : List Made) (es : List Dest) (us : List ℕ) : Type 0 where
+  pub results : Results ns
+  pub few : length ns ≤ length ms + more
+  pub dests : dests_in ns ≡ dests_in ms ++ es
+  pub values : values_in ns ≡ values_in ms ++ us
 
--- the arrays of results and of stores
-pub record Scratch : Type 0 where
-  pub regs : List ℕ
-  pub vals : List ℕ
-  pub dels : List ℕ
-  pub ats : List ℕ
-  pub words : List ℕ
-  pub sizes : List ℕ
-
-abbrev pub scratch : List ℕ → List ℕ → List ℕ → List ℕ → List ℕ → List ℕ → Scratch
-scratch gs vs ds ps ws ns = record { regs = gs; vals = vs; dels = ds; ats = ps; words = ws; sizes = ns }
-
--- they hold what was seen, with a memory of m bytes
-pub record Holds (m : ℕ) (s : Seen) (a : Scratch) : Type 0 where
-  pub results : Results a.regs a.vals a.dels s.results
-  pub stores : Stores a.ats a.words a.sizes s.stores m
+-- scratch holds results and stores, with a memory of m bytes
+pub record Holds (m : ℕ) (a : Scratch) : Type 0 where
+  pub results : Results a.results
+  pub stores : Stores a.stores m
 
 -- which are these destinations, values and stores
-pub record Lists (ds : List Dest) (vs : List ℕ) (ss : List Store) (s : Seen) (a : Scratch) : Type 0 where
-  pub dests : dests_in a.regs a.dels s.results ≡ ds
-  pub values : values_in a.vals s.results ≡ vs
-  pub stores : stores_in a.ats a.words a.sizes s.stores ≡ ss
+pub record Lists (ds : List Dest) (vs : List ℕ) (ss : List Store) (a : Scratch) : Type 0 where
+  pub dests : dests_in a.results ≡ ds
+  pub values : values_in a.results ≡ vs
+  pub stores : a.stores ≡ ss
 
 -- from s to r the operation is done, all but its busy registers; after a fault nothing is said of the lists
 pub record Acts (d : Delays) (m : List ℕ) (j : ℕ) (e : Fired) (s : Seen) (a : Scratch) (r : Seen) (b : Scratch) : Type 0 where
   pub busy : r.busy ≡ s.busy
   pub fault : r.fault ≡ s.fault or_else fault_of (length m) (e ∷ [])
   pub next : (k : Next) → next_by (turn_in r.course r.place) k ≡ next_by (turn_in s.course s.place) (next_from j (e ∷ []) k)
-  pub holds : Holds (length m) r b
-  pub few : r.results ≤ s.results + 2
-  pub fewer : r.stores ≤ s.stores + 1
+  pub holds : Holds (length m) b
+  pub few : length b.results ≤ length a.results + 2
+  pub fewer : length b.stores ≤ length a.stores + 1
   pub lists : r.fault ≡ None
-      → Lists (dests_in a.regs a.dels s.results ++ dests d (e.op ∷ [])) (values_in a.vals s.results ++ result_values m (e ∷ [])) (stores_in a.ats a.words a.sizes s.stores ++ stores_of (length m) (e ∷ [])) r b
+      → Lists (dests_in a.results ++ dests d (e.op ∷ [])) (values_in a.results ++ result_values m (e ∷ [])) (a.stores ++ stores_of (length m) (e ∷ [])) b
 
 -- the same, if it is not late; where a register was in flight no more is said than what there is room for
 pub record Does (late : Bool) (d : Delays) (m : List ℕ) (j : ℕ) (e : Fired) (s : Seen) (a : Scratch) (r : Seen) (b : Scratch) : Type 0 where
   pub busy : r.busy ≡ s.busy || late
-  pub holds : Holds (length m) r b
-  pub few : r.results ≤ s.results + 2
-  pub fewer : r.stores ≤ s.stores + 1
+  pub holds : Holds (length m) b
+  pub few : length b.results ≤ length a.results + 2
+  pub fewer : length b.stores ≤ length a.stores + 1
   pub acts : r.busy ≡ false → Acts d m j e s a r b
 
 -- ---- the operations so far
@@ -170,12 +161,12 @@ fired l os = map (fire (map (λ (c : Cell). c.value) l)) os
 pub record Came (d : Delays) (m : List ℕ) (j : ℕ) (os : List Op) (es : List Fired) (s : Seen) (a : Scratch) : Type 0 where
   pub fault : s.fault ≡ fault_of (length m) es
   pub next : (k : Next) → next_from j es k ≡ next_by (turn_in s.course s.place) k
-  pub lists : s.fault ≡ None → Lists (dests d os) (result_values m es) (stores_of (length m) es) s a
+  pub lists : s.fault ≡ None → Lists (dests d os) (result_values m es) (stores_of (length m) es) a
 
 -- which is told only if none is late
 pub record Gathered (late : Op → Bool) (firing : Op → Fired) (d : Delays) (m : List ℕ) (j : ℕ) (os : List Op) (s : Seen) (a : Scratch) : Type 0 where
   pub busy : s.busy ≡ any late os
-  pub holds : Holds (length m) s a
-  pub few : s.results ≤ 2 * length os
-  pub fewer : s.stores ≤ length os
+  pub holds : Holds (length m) a
+  pub few : length a.results ≤ 2 * length os
+  pub fewer : length a.stores ≤ length os
   pub came : s.busy ≡ false → Came d m j os (map firing os) s a

@@ -1,7 +1,7 @@
 // One pass over an instruction's operations: everything is read, and nothing is written but scratch.
 #![tactic(auto)]
 
-ghost use Rattle.std.specs.Prelude.{◌≡◌, true, false, List, [], ◌∷◌, ◌++◌, map, ℕ, ◌+◌, ◌≤◌, ◌<◌, length, get_or};
+ghost use Rattle.std.specs.Prelude.{◌≡◌, true, false, [], ◌∷◌, ◌++◌, map, ℕ, ◌+◌, ◌≤◌, ◌<◌, length, None};
 ghost use Rattle.word.specs.Bytes.{words, number_at};
 ghost use Rattle.ops.specs.Value.{loaded, stored};
 ghost use Rattle.ops.specs.Value.{value as value_of};
@@ -10,21 +10,23 @@ ghost use Rattle.isa.specs.Control.{turn_of};
 ghost use Rattle.isa.specs.Decode.{decode};
 ghost use Rattle.isa.specs.Program.{spots, operation};
 ghost use Rattle.isa.specs.Touch.{dests};
-ghost use Rattle.isa.specs.declared.Op.{Op};
-ghost use Rattle.isa.specs.declared.Delays.{Delays};
 ghost use Rattle.memory.specs.Memory.{size_of};
-ghost use Rattle.memory.specs.Held.{Within, Stores, stores_in};
-ghost use Rattle.memory.specs.declared.FirstFault.TheVariants.{None};
+ghost use Rattle.memory.specs.Held.{Within};
 ghost use Rattle.machine.specs.Instruction.{address_of, value_in, Next, next_by};
 ghost use Rattle.ticks.specs.Ticks.{Results};
-ghost use Rattle.gather.specs.Gather.{Own, Timely, Flying, Formed, is_turn, turn_in, named_late, op_late, fire_at, dest_in, values_by, Noted, Scratch, scratch, Holds, Acts, Does, Gathered};
+ghost use Rattle.gather.specs.Gather.{Own, Timely, Flying, Formed, is_turn, turn_in, named_late, op_late, fire_at, dest_in, values_by, Noted, Holds, Acts, Does, Gathered};
+ghost use Rattle.gather.specs.declared.Course.TheVariants.{Open};
+ghost use Rattle.gather.specs.Scratch.{Scratch};
 
 use isa::control::turn;
 use isa::stretch::{opened, opened_by, syllable};
 use isa::syllable::opcode;
 use isa::touch::delay;
 use isa::{Count, Delays, Op, Place, Slot, Turn, decode};
-use memory::{Access, FirstFault};
+use memory::Store;
+use std::marker::Model;
+use ticks::{Made, Registers};
+use vliw::Fault;
 
 // Where the operations so far go on: that is open, they stop, it is set to a place, they call there, or go back to the link. Apart from the
 // place, since copying isa's Turn once for each operation makes the loop twice as slow (docs/DECISIONS.md).
@@ -38,620 +40,420 @@ pub enum Course {
 }
 
 // What the operations so far came to: whether one names a register in flight, and then nothing else counts; where the first that decides it
-// goes on; the first fault of their accesses; and how many results and stores are in scratch.
+// goes on; and the first fault of their accesses.
 #[derive(Clone, Copy)]
 pub struct Seen {
     pub busy: bool,
     pub course: Course,
-    pub fault: FirstFault,
-    pub results: usize,
-    pub stores: usize,
+    pub fault: Option<Fault>,
     pub place: Place,
+}
+
+// The results and the stores of the operations so far. Not the kit's ArrayVec, whose `clear` writes blanks over what it drops: with a call of
+// memset at each instruction a loop of adds takes a seventh more machine instructions.
+#[derive(Drop)]
+pub struct Scratch {
+    made: [Made; 64],
+    results: usize,
+    laid: [Store; 32],
+    stores: usize,
+}
+
+impl Model for Scratch {
+    ghost use Rattle.std.specs.Prelude.{◌≤◌, take};
+    ghost use Rattle.gather.specs.Scratch.{Scratch as Held};
+
+    ghost Value = { Held };
+
+    ghost view = { λ s. record { results = take s.results s.made; stores = take s.stores s.laid } };
+
+    ghost invariant = { λ s. (s.results ≤ 64) × (s.stores ≤ 32) };
+}
+
+// What an instruction finds, at tick t: all that it reads is as it stood before it. `flying`: whether a register may be in flight. `end`
+// follows it.
+#[derive(Clone, Copy)]
+pub struct Before<'a> {
+    pub registers: &'a Registers,
+    pub memory: &'a [u8],
+    pub delays: Delays,
+    pub t: Count,
+    pub flying: bool,
+    pub end: Place,
 }
 
 // The values of what an operation reads: s1, s2 or the immediate, and b.
 #[derive(Clone, Copy)]
-pub struct Operands {
-    pub x: u32,
-    pub y: u32,
-    pub b: u32,
+struct Operands {
+    x: u32,
+    y: u32,
+    b: u32,
 }
 
-// ---- registers in flight
+impl Scratch {
+    pub fn new() -> Scratch
+        ensures { (result.results ≡ []) × (result.stores ≡ []) }
+    {
+        Scratch {
+            made: [Made::default(); 64],
+            results: 0,
+            laid: [Store::default(); 32],
+            stores: 0,
+        }
+    }
 
-// Whether register r is in flight, where 0 stands for none: the compiler leaves the test out where a form has none.
-fn named_late(ready: &[u64; 288], r: u32, t: Count) -> bool
-    requires { r < 288 }
-    ensures { result ≡ named_late t.0 ready.now r }
-{
-    r != 0 && ticks::late(ready, r, t)
-}
+    pub fn results(&self) -> &[Made]
+        ensures { result.now ≡ self.now.results }
+    {
+        &self.made[..self.results]
+    }
 
-// Whether a register of the operation is in flight; where none can be, nothing is asked.
-fn late(op: Op, ready: &[u64; 288], flying: bool, t: Count) -> bool
-    requires formed { Formed op }
-    requires op_value { flying ≡ false → op_late t.0 ready.now op ≡ false }
-    ensures { result ≡ op_late t.0 ready.now op }
-{
-    if !flying {
-        return false;
+    pub fn stores(&self) -> &[Store]
+        ensures { result.now ≡ self.now.stores }
+    {
+        &self.laid[..self.stores]
     }
-    if ticks::late(ready, op.s1, t) {
-        return true;
-    }
-    if ticks::late(ready, op.s2, t) {
-        return true;
-    }
-    if named_late(ready, op.b, t) {
-        return true;
-    }
-    if named_late(ready, op.stored, t) {
-        return true;
-    }
-    if ticks::late(ready, op.t, t) {
-        return true;
-    }
-    named_late(ready, op.carry, t)
-}
 
-// An operation with a register in flight does nothing.
-fn held(s: Seen) -> Seen
-    ensures { result
-        ≡ record { busy = true; fault = s.fault; results = s.results; stores = s.stores; course = s.course; place = s.place } }
-{
-    let fault = s.fault;
-    let course = s.course;
-    let place = s.place;
-    Seen {
-        busy: true,
-        fault,
-        results: s.results,
-        stores: s.stores,
-        course,
-        place,
+    fn clear(&mut self)
+        ensures { (self.new.results ≡ []) × (self.new.stores ≡ []) }
+    {
+        self.results = 0;
+        self.stores = 0;
+    }
+
+    fn note(&mut self, m: Made)
+        requires { length self.old.results < 64 }
+        ensures results { self.new.results ≡ self.old.results ++ m ∷ [] }
+        ensures stores { self.new.stores ≡ self.old.stores }
+    {
+        self.made[self.results] = m;
+        self.results += 1;
+    }
+
+    fn lay(&mut self, s: Store)
+        requires { length self.old.stores < 32 }
+        ensures stores { self.new.stores ≡ self.old.stores ++ s ∷ [] }
+        ensures results { self.new.results ≡ self.old.results }
+    {
+        self.laid[self.stores] = s;
+        self.stores += 1;
     }
 }
 
-// ---- results
-
-// One more result of the operation, unless register r is 0.
-fn result(
-    delays: Delays,
-    opcode: u32,
-    r: u32,
-    v: u32,
-    n: usize,
-    reg: &mut [u32; 64],
-    val: &mut [u32; 64],
-    del: &mut [u64; 64],
-) -> usize
-    requires timely { Timely delays }
-    requires results { Results reg.old val.old del.old n }
-    requires n_bound { (n < 64) × (r < 288) }
-    ensures { Noted 1 reg.old val.old del.old n
-        reg.new val.new del.new result (dest_in delays opcode r []) (value_in r v []) }
-{
-    if r == 0 {
-        return n;
+impl Seen {
+    // An operation with a register in flight does nothing.
+    fn held(self) -> Seen
+        ensures { result ≡ record { busy = true; course = self.course; fault = self.fault; place = self.place } }
+    {
+        Seen { busy: true, ..self }
     }
-    let l = delay(delays, opcode, r);
-    ticks::note(reg, val, del, n, r, v, l);
-    n + 1
+
+    // Going on by this turn, where that was open.
+    fn aimed(self, turn: Turn) -> Seen
+        requires { self.course ≡ Open }
+        ensures same { (result.busy ≡ self.busy) × (result.fault ≡ self.fault) }
+        ensures turn { turn_in result.course result.place ≡ turn }
+    {
+        match turn {
+            Turn::Onward => self,
+            Turn::Stops => Seen {
+                course: Course::Stop,
+                ..self
+            },
+            Turn::To(place) => Seen {
+                course: Course::Set,
+                place,
+                ..self
+            },
+            Turn::Calls(place) => Seen {
+                course: Course::Call,
+                place,
+                ..self
+            },
+            Turn::Back => Seen {
+                course: Course::Back,
+                ..self
+            },
+        }
+    }
 }
 
-fn operands_at(op: Op, value: &[u32; 288]) -> Operands
-    requires { Formed op }
-    ensures x { result.x ≡ (fire_at value.now op).x }
-    ensures y { result.y ≡ (fire_at value.now op).y }
-    ensures b { result.b ≡ (fire_at value.now op).b }
-{
-    let x = ticks::made(value, op.s1);
-    let s2 = ticks::made(value, op.s2);
-    let b = ticks::made(value, op.b);
-    if op.s2 == 0 {
+impl Before<'_> {
+    // ---- registers
+
+    // Whether register r is in flight, where 0 stands for none: the compiler leaves the test out where a form has none.
+    fn named_late(&self, r: u32) -> bool
+        requires { r < 288 }
+        ensures { result ≡ named_late self.now.t.0 self.now.registers.now.all r }
+    {
+        r != 0 && self.registers.late(r, self.t)
+    }
+
+    // Whether a register of the operation is in flight; where none can be, nothing is asked.
+    #[tactic(auto, using(crate::proofs::Idle::idle_late))]
+    fn late(&self, op: Op) -> bool
+        requires formed { Formed op }
+        requires flying { Flying self.now.flying self.now.t.0 self.now.registers.now.all }
+        ensures { result ≡ op_late self.now.t.0 self.now.registers.now.all op }
+    {
+        self.flying
+            && (self.registers.late(op.s1, self.t)
+                || self.registers.late(op.s2, self.t)
+                || self.named_late(op.b)
+                || self.named_late(op.stored)
+                || self.registers.late(op.t, self.t)
+                || self.named_late(op.carry))
+    }
+
+    fn operands(&self, op: Op) -> Operands
+        requires { Formed op }
+        ensures x { result.x ≡ (fire_at self.now.registers.now.all op).x }
+        ensures y { result.y ≡ (fire_at self.now.registers.now.all op).y }
+        ensures b { result.b ≡ (fire_at self.now.registers.now.all op).b }
+    {
+        let x = self.registers.made(op.s1);
+        let s2 = self.registers.made(op.s2);
+        let b = self.registers.made(op.b);
         Operands {
             x,
-            y: op.immediate,
+            y: if op.s2 == 0 { op.immediate } else { s2 },
             b,
         }
-    } else {
-        Operands { x, y: s2, b }
     }
-}
 
-// The results of an operation that computes.
-fn compute(
-    op: Op,
-    value: &[u32; 288],
-    delays: Delays,
-    n: usize,
-    reg: &mut [u32; 64],
-    val: &mut [u32; 64],
-    del: &mut [u64; 64],
-) -> usize
-    requires formed { Formed op }
-    requires timely { Timely delays }
-    requires results { Results reg.old val.old del.old n }
-    requires n_bound { n < 63 }
-    ensures { let e = fire_at value.now op in
-        Noted 2 reg.old val.old del.old n
-        reg.new val.new del.new result
-        (dests delays (op ∷ [])) (values_by e (value_of op.opcode e.x e.y e.b)) }
-{
-    let o = operands_at(op, value);
-    let v = ops::value(op.opcode, o.x, o.y, o.b);
-    let k = result(delays, op.opcode, op.t, v, n, reg, val, del);
-    let c = ops::carry(o.x, o.y, o.b);
-    result(delays, op.opcode, op.carry, c, k, reg, val, del)
-}
+    // ---- results
 
-// An operation that computes.
-fn computes(
-    op: Op,
-    t: Count,
-    flying: bool,
-    value: &[u32; 288],
-    ready: &[u64; 288],
-    delays: Delays,
-    s: Seen,
-    reg: &mut [u32; 64],
-    val: &mut [u32; 64],
-    del: &mut [u64; 64],
-) -> Seen
-    requires formed { Formed op }
-    requires timely { Timely delays }
-    requires results { Results reg.old val.old del.old s.results }
-    requires results_bound { (s.results < 63) × (0 < op.opcode) × (op.opcode ≤ 51) × (flying ≡ false → op_late t.0 ready.now op ≡ false) }
-    ensures { (m : List ℕ) (j : ℕ) (ps ws ns : List ℕ) → Stores ps ws ns s.stores (length m)
-        → Does (op_late t.0 ready.now op) delays m j (fire_at value.now op)
-        s (scratch reg.old val.old del.old ps ws ns)
-        result (scratch reg.new val.new del.new ps ws ns) }
-{
-    if late(op, ready, flying, t) {
-        return held(s);
+    // One more result of the operation, unless register r is 0.
+    fn result(&self, opcode: u32, r: u32, v: u32, scratch: &mut Scratch)
+        requires timely { Timely self.now.delays }
+        requires results { Results scratch.old.results }
+        requires room { (length scratch.old.results < 64) × (r < 288) }
+        ensures noted { Noted 1 scratch.old.results scratch.new.results (dest_in self.now.delays opcode r []) (value_in r v []) }
+        ensures stores { scratch.new.stores ≡ scratch.old.stores }
+    {
+        if r == 0 {
+            return;
+        }
+        let after = delay(self.delays, opcode, r);
+        scratch.note(Made {
+            register: r,
+            value: v,
+            delay: after,
+        });
     }
-    let results = compute(op, value, delays, s.results, reg, val, del);
-    let fault = s.fault;
-    let course = s.course;
-    let place = s.place;
-    Seen {
-        busy: s.busy,
-        fault,
-        results,
-        stores: s.stores,
-        course,
-        place,
+
+    // The results of an operation that computes.
+    fn compute(&self, op: Op, scratch: &mut Scratch)
+        requires formed { Formed op }
+        requires timely { Timely self.now.delays }
+        requires results { Results scratch.old.results }
+        requires room { length scratch.old.results < 63 }
+        ensures noted { let e = fire_at self.now.registers.now.all op in
+            Noted 2 scratch.old.results scratch.new.results
+            (dests self.now.delays (op ∷ [])) (values_by e (value_of op.opcode e.x e.y e.b)) }
+        ensures stores { scratch.new.stores ≡ scratch.old.stores }
+    {
+        let o = self.operands(op);
+        self.result(
+            op.opcode,
+            op.t,
+            ops::value(op.opcode, o.x, o.y, o.b),
+            scratch,
+        );
+        self.result(op.opcode, op.carry, ops::carry(o.x, o.y, o.b), scratch);
     }
-}
 
-// A copy, which keeps its source.
-fn copies(
-    op: Op,
-    t: Count,
-    flying: bool,
-    value: &[u32; 288],
-    ready: &[u64; 288],
-    delays: Delays,
-    s: Seen,
-    reg: &mut [u32; 64],
-    val: &mut [u32; 64],
-    del: &mut [u64; 64],
-) -> Seen
-    requires formed { Formed op }
-    requires timely { Timely delays }
-    requires results { Results reg.old val.old del.old s.results }
-    requires results_bound { (s.results < 63) × (op.opcode ≡ 60) × (flying ≡ false → op_late t.0 ready.now op ≡ false) }
-    ensures { (m : List ℕ) (j : ℕ) (ps ws ns : List ℕ) → Stores ps ws ns s.stores (length m)
-        → Does (op_late t.0 ready.now op) delays m j (fire_at value.now op)
-        s (scratch reg.old val.old del.old ps ws ns)
-        result (scratch reg.new val.new del.new ps ws ns) }
-{
-    if late(op, ready, flying, t) {
-        return held(s);
+    // An operation that computes.
+    fn computes(&self, op: Op, s: Seen, scratch: &mut Scratch) -> Seen
+        requires formed { Formed op }
+        requires timely { Timely self.now.delays }
+        requires flying { Flying self.now.flying self.now.t.0 self.now.registers.now.all }
+        requires holds { Holds (length self.now.memory.now) scratch.old }
+        requires room { (length scratch.old.results < 63) × (0 < op.opcode) × (op.opcode ≤ 51) }
+        ensures { Does (op_late self.now.t.0 self.now.registers.now.all op) self.now.delays self.now.memory.now self.now.end.0 (fire_at self.now.registers.now.all op) s scratch.old result scratch.new }
+    {
+        if self.late(op) {
+            return s.held();
+        }
+        self.compute(op, scratch);
+        s
     }
-    let v = ticks::made(value, op.s1);
-    let results = result(delays, op.opcode, op.t, v, s.results, reg, val, del);
-    let fault = s.fault;
-    let course = s.course;
-    let place = s.place;
-    Seen {
-        busy: s.busy,
-        fault,
-        results,
-        stores: s.stores,
-        course,
-        place,
+
+    // A copy, which keeps its source.
+    fn copies(&self, op: Op, s: Seen, scratch: &mut Scratch) -> Seen
+        requires formed { Formed op }
+        requires timely { Timely self.now.delays }
+        requires flying { Flying self.now.flying self.now.t.0 self.now.registers.now.all }
+        requires holds { Holds (length self.now.memory.now) scratch.old }
+        requires room { (length scratch.old.results < 63) × (op.opcode ≡ 60) }
+        ensures { Does (op_late self.now.t.0 self.now.registers.now.all op) self.now.delays self.now.memory.now self.now.end.0 (fire_at self.now.registers.now.all op) s scratch.old result scratch.new }
+    {
+        if self.late(op) {
+            return s.held();
+        }
+        self.result(op.opcode, op.t, self.registers.made(op.s1), scratch);
+        s
     }
-}
 
-// ---- loads and stores
+    // ---- loads and stores
 
-// Where an access goes.
-fn address(op: Op, value: &[u32; 288]) -> u32
-    requires { Formed op }
-    ensures { result ≡ address_of (fire_at value.now op) }
-{
-    ops::address(ticks::made(value, op.s1), op.offset)
-}
+    // Where an access goes.
+    fn address(&self, op: Op) -> u32
+        requires { Formed op }
+        ensures { result ≡ address_of (fire_at self.now.registers.now.all op) }
+    {
+        ops::address(self.registers.made(op.s1), op.offset)
+    }
 
-// The result of a load from a.
-fn load(
-    op: Op,
-    a: u32,
-    memory: &[u8],
-    delays: Delays,
-    n: usize,
-    reg: &mut [u32; 64],
-    val: &mut [u32; 64],
-    del: &mut [u64; 64],
-) -> usize
-    requires formed { Formed op }
-    requires timely { Timely delays }
-    requires results { Results reg.old val.old del.old n }
-    requires n_bound { (n < 64) × (size_of op.opcode + a ≤ length memory.now) }
-    ensures { Noted 1 reg.old val.old del.old n
-        reg.new val.new del.new result
-        (dest_in delays op.opcode op.t [])
-        (value_in op.t (loaded op.opcode (number_at (size_of op.opcode) a memory.now)) []) }
-{
-    let v = memory::load(memory, op.opcode, a);
-    result(delays, op.opcode, op.t, v, n, reg, val, del)
-}
+    // A load from a.
+    fn load(&self, op: Op, a: u32, scratch: &mut Scratch)
+        requires formed { Formed op }
+        requires timely { Timely self.now.delays }
+        requires results { Results scratch.old.results }
+        requires room { (length scratch.old.results < 64) × (size_of op.opcode + a ≤ length self.now.memory.now) }
+        ensures noted { Noted 1 scratch.old.results scratch.new.results
+            (dest_in self.now.delays op.opcode op.t [])
+            (value_in op.t (loaded op.opcode (number_at (size_of op.opcode) a self.now.memory.now)) []) }
+        ensures stores { scratch.new.stores ≡ scratch.old.stores }
+    {
+        self.result(
+            op.opcode,
+            op.t,
+            memory::load(self.memory, op.opcode, a),
+            scratch,
+        );
+    }
 
-// A store of n bytes to a.
-fn store(
-    op: Op,
-    value: &[u32; 288],
-    a: u32,
-    n: u32,
-    count: usize,
-    offsets: &mut [u32; 32],
-    contents: &mut [u32; 32],
-    sizes: &mut [u32; 32],
-)
-    requires formed { Formed op }
-    requires offsets_len { (length offsets.old ≡ 32) × (length contents.old ≡ 32) × (length sizes.old ≡ 32) × (count < 32) }
-    ensures is { stores_in offsets.new contents.new sizes.new (count + 1)
-        ≡ stores_in offsets.old contents.old sizes.old count
-        ++ (record { at = a; size = n; value = stored op.opcode (fire_at value.now op).stored } ∷ []) }
-    ensures within { (m : ℕ) → Within a n m → Stores offsets.old contents.old sizes.old count m
-        → Stores offsets.new contents.new sizes.new (count + 1) m }
-{
-    let v = ticks::made(value, op.stored);
-    memory::note_store(
-        offsets,
-        contents,
-        sizes,
-        count,
-        a,
-        ops::stored(op.opcode, v),
-        n,
-    );
-}
+    // A store of n bytes to a.
+    fn store(&self, op: Op, a: u32, n: u32, scratch: &mut Scratch)
+        requires formed { Formed op }
+        requires room { length scratch.old.stores < 32 }
+        ensures is { scratch.new.stores
+            ≡ scratch.old.stores ++ record { at = a; size = n; value = stored op.opcode (fire_at self.now.registers.now.all op).stored } ∷ [] }
+        ensures results { scratch.new.results ≡ scratch.old.results }
+    {
+        scratch.lay(Store {
+            at: a,
+            size: n,
+            value: ops::stored(op.opcode, self.registers.made(op.stored)),
+        });
+    }
 
-// A load or a store where there was no fault before it.
-fn access(
-    op: Op,
-    value: &[u32; 288],
-    memory: &[u8],
-    delays: Delays,
-    s: Seen,
-    reg: &mut [u32; 64],
-    val: &mut [u32; 64],
-    del: &mut [u64; 64],
-    offsets: &mut [u32; 32],
-    contents: &mut [u32; 32],
-    sizes: &mut [u32; 32],
-) -> Seen
-    requires formed { Formed op }
-    requires timely { Timely delays }
-    requires holds { Holds (length memory.now) s (scratch reg.old val.old del.old offsets.old contents.old sizes.old) }
-    requires results_bound { (s.results < 63) × (s.stores < 32) × (is_mem op.opcode ≡ true) × (s.fault ≡ None) }
-    ensures { (j : ℕ) → Acts delays memory.now j (fire_at value.now op)
-        s (scratch reg.old val.old del.old offsets.old contents.old sizes.old)
-        result (scratch reg.new val.new del.new offsets.new contents.new sizes.new) }
-{
-    let fault = s.fault;
-    let course = s.course;
-    let place = s.place;
-    let n = memory::size(op.opcode);
-    match memory::access_at(memory.len(), n, address(op, value)) {
-        Access::Refused(f) => Seen {
-            busy: s.busy,
-            fault: FirstFault::First(f),
-            results: s.results,
-            stores: s.stores,
-            course,
-            place,
-        },
-        Access::To(a) => {
-            if op.opcode <= 56 {
-                let results = load(op, a, memory, delays, s.results, reg, val, del);
-                return Seen {
-                    busy: s.busy,
-                    fault,
-                    results,
-                    stores: s.stores,
-                    course,
-                    place,
-                };
-            }
-            store(op, value, a, n, s.stores, offsets, contents, sizes);
-            Seen {
-                busy: s.busy,
-                fault,
-                results: s.results,
-                stores: s.stores + 1,
-                course,
-                place,
+    // A load or a store where there was no fault before it.
+    fn access(&self, op: Op, s: Seen, scratch: &mut Scratch) -> Seen
+        requires formed { Formed op }
+        requires timely { Timely self.now.delays }
+        requires holds { Holds (length self.now.memory.now) scratch.old }
+        requires room { (length scratch.old.results < 63) × (length scratch.old.stores < 32) × (is_mem op.opcode ≡ true) × (s.fault ≡ None) }
+        ensures { Acts self.now.delays self.now.memory.now self.now.end.0 (fire_at self.now.registers.now.all op) s scratch.old result scratch.new }
+    {
+        let n = memory::size(op.opcode);
+        match memory::access_at(self.memory.len(), n, self.address(op)) {
+            Err(fault) => Seen {
+                fault: Some(fault),
+                ..s
+            },
+            Ok(a) => {
+                if op.opcode <= 56 {
+                    self.load(op, a, scratch);
+                } else {
+                    self.store(op, a, n, scratch);
+                }
+                s
             }
         }
     }
-}
 
-// A load or a store; after a fault nothing is asked of it.
-fn accesses(
-    op: Op,
-    t: Count,
-    flying: bool,
-    value: &[u32; 288],
-    ready: &[u64; 288],
-    memory: &[u8],
-    delays: Delays,
-    s: Seen,
-    reg: &mut [u32; 64],
-    val: &mut [u32; 64],
-    del: &mut [u64; 64],
-    offsets: &mut [u32; 32],
-    contents: &mut [u32; 32],
-    sizes: &mut [u32; 32],
-) -> Seen
-    requires formed { Formed op }
-    requires timely { Timely delays }
-    requires holds { Holds (length memory.now) s (scratch reg.old val.old del.old offsets.old contents.old sizes.old) }
-    requires results_bound { (s.results < 63) × (s.stores < 32) × (is_mem op.opcode ≡ true) × (flying ≡ false → op_late t.0 ready.now op ≡ false) }
-    ensures { (j : ℕ) → Does (op_late t.0 ready.now op) delays memory.now j (fire_at value.now op)
-        s (scratch reg.old val.old del.old offsets.old contents.old sizes.old)
-        result (scratch reg.new val.new del.new offsets.new contents.new sizes.new) }
-{
-    if late(op, ready, flying, t) {
-        return held(s);
+    // A load or a store; after a fault nothing is asked of it.
+    fn accesses(&self, op: Op, s: Seen, scratch: &mut Scratch) -> Seen
+        requires formed { Formed op }
+        requires timely { Timely self.now.delays }
+        requires flying { Flying self.now.flying self.now.t.0 self.now.registers.now.all }
+        requires holds { Holds (length self.now.memory.now) scratch.old }
+        requires room { (length scratch.old.results < 63) × (length scratch.old.stores < 32) × (is_mem op.opcode ≡ true) }
+        ensures { Does (op_late self.now.t.0 self.now.registers.now.all op) self.now.delays self.now.memory.now self.now.end.0 (fire_at self.now.registers.now.all op) s scratch.old result scratch.new }
+    {
+        if self.late(op) {
+            return s.held();
+        }
+        match s.fault {
+            Some(_) => s,
+            None => self.access(op, s, scratch),
+        }
     }
-    let fault = s.fault;
-    match fault {
-        FirstFault::First(_) => s,
-        FirstFault::None => access(
-            op, value, memory, delays, s, reg, val, del, offsets, contents, sizes,
-        ),
+
+    // ---- where to go on
+
+    // Where an operation goes, from where those before it do: the first that decides it does.
+    fn decide(&self, op: Op, s: Seen) -> Seen
+        requires { Formed op }
+        ensures same { (result.busy ≡ s.busy) × (result.fault ≡ s.fault) }
+        ensures next { (k : Next) → next_by (turn_in result.course result.place) k
+            ≡ next_by (turn_in s.course s.place) (next_by (turn_of op.way (fire_at self.now.registers.now.all op).b self.now.end) k) }
+    {
+        match s.course {
+            Course::Open => s.aimed(turn(op.way, self.registers.made(op.b), self.end)),
+            Course::Stop | Course::Set | Course::Call | Course::Back => s,
+        }
     }
-}
 
-// ---- where to go on
+    // A control operation.
+    fn turns(&self, op: Op, s: Seen) -> Seen
+        requires formed { Formed op }
+        requires flying { Flying self.now.flying self.now.t.0 self.now.registers.now.all }
+        requires turn { is_turn op.opcode ≡ true }
+        ensures { (a : Scratch) → Holds (length self.now.memory.now) a
+            → Does (op_late self.now.t.0 self.now.registers.now.all op) self.now.delays self.now.memory.now self.now.end.0 (fire_at self.now.registers.now.all op) s a result a }
+    {
+        if self.late(op) {
+            return s.held();
+        }
+        self.decide(op, s)
+    }
 
-// A turn as a course and its place.
-#[derive(Clone, Copy)]
-struct Aim {
-    course: Course,
-    place: Place,
-}
+    // ---- the pass
 
-fn aimed(turn: Turn, end: Place) -> Aim
-    ensures { turn_in result.course result.place ≡ turn }
-{
-    match turn {
-        Turn::Onward => Aim {
+    // Syllable w of cluster c. It is decoded and done by the range of its opcode, so that the compiled code tests it once. Opcode 0 names no
+    // register, so that nothing is asked.
+    fn step(&self, c: u32, w: u32, s: Seen, scratch: &mut Scratch) -> Seen
+        requires c_bound { c < 4 }
+        requires timely { Timely self.now.delays }
+        requires flying { Flying self.now.flying self.now.t.0 self.now.registers.now.all }
+        requires holds { Holds (length self.now.memory.now) scratch.old }
+        requires room { (length scratch.old.results < 63) × (length scratch.old.stores < 32) }
+        ensures { Does (op_late self.now.t.0 self.now.registers.now.all (decode c w)) self.now.delays self.now.memory.now self.now.end.0 (fire_at self.now.registers.now.all (decode c w))
+            s scratch.old result scratch.new }
+    {
+        match opcode(w) {
+            0 => self.decide(decode::still(w), s),
+            1..=51 => self.computes(decode::compute(c, w), s, scratch),
+            52..=59 => self.accesses(decode::access(c, w), s, scratch),
+            60 => self.copies(decode::copy(c, w), s, scratch),
+            _ => self.turns(decode::jump(c, w), s),
+        }
+    }
+
+    // All operations of the instruction of this stretch, and scratch holds their results and stores.
+    pub fn collect(&self, stretch: &[u8], scratch: &mut Scratch) -> Seen
+        requires own { Own (spots (words stretch.now)) }
+        requires timely { Timely self.now.delays }
+        requires flying { Flying self.now.flying self.now.t.0 self.now.registers.now.all }
+        ensures { Gathered (op_late self.now.t.0 self.now.registers.now.all) (fire_at self.now.registers.now.all) self.now.delays
+            self.now.memory.now self.now.end.0 (map operation (spots (words stretch.now))) result scratch.new }
+    {
+        scratch.clear();
+        let mut s = Seen {
+            busy: false,
             course: Course::Open,
-            place: end,
-        },
-        Turn::Stops => Aim {
-            course: Course::Stop,
-            place: end,
-        },
-        Turn::To(place) => Aim {
-            course: Course::Set,
-            place,
-        },
-        Turn::Calls(place) => Aim {
-            course: Course::Call,
-            place,
-        },
-        Turn::Back => Aim {
-            course: Course::Back,
-            place: end,
-        },
-    }
-}
-
-// Where an operation goes, from where those before it do: the first that decides it does.
-fn decide(op: Op, end: Place, value: &[u32; 288], course: Course, place: Place) -> Aim
-    requires { Formed op }
-    ensures { (k : Next) → next_by (turn_in result.course result.place) k
-        ≡ next_by (turn_in course place) (next_by (turn_of op.way (fire_at value.now op).b end) k) }
-{
-    match course {
-        Course::Open => {
-            let way = op.way;
-            aimed(turn(way, ticks::made(value, op.b), end), end)
+            fault: None,
+            place: self.end,
+        };
+        let mut clusters = 0;
+        for j in 0..stretch.len() / 4 {
+            let w = syllable(stretch, Slot(j));
+            clusters = opened(clusters, w);
+            s = self.step(opened_by(clusters) as u32, w, s, scratch);
         }
-        Course::Stop => Aim { course, place },
-        Course::Set => Aim { course, place },
-        Course::Call => Aim { course, place },
-        Course::Back => Aim { course, place },
+        s
     }
-}
-
-// A control operation.
-fn turns(
-    op: Op,
-    end: Place,
-    t: Count,
-    flying: bool,
-    value: &[u32; 288],
-    ready: &[u64; 288],
-    s: Seen,
-) -> Seen
-    requires formed { Formed op }
-    requires opcode_value { (is_turn op.opcode ≡ true) × (flying ≡ false → op_late t.0 ready.now op ≡ false) }
-    ensures { (d : Delays) (m : List ℕ) (a : Scratch) → Holds (length m) s a
-        → Does (op_late t.0 ready.now op) d m end.0 (fire_at value.now op) s a result a }
-{
-    if late(op, ready, flying, t) {
-        return held(s);
-    }
-    let fault = s.fault;
-    let course = s.course;
-    let place = s.place;
-    let a = decide(op, end, value, course, place);
-    let course = a.course;
-    let place = a.place;
-    Seen {
-        busy: s.busy,
-        fault,
-        results: s.results,
-        stores: s.stores,
-        course,
-        place,
-    }
-}
-
-// ---- the pass
-
-// Syllable w of cluster c. It is decoded and done by the range of its opcode, so that the compiled code tests it once. Opcode 0 names no register.
-fn step(
-    c: u32,
-    w: u32,
-    end: Place,
-    t: Count,
-    flying: bool,
-    value: &[u32; 288],
-    ready: &[u64; 288],
-    memory: &[u8],
-    delays: Delays,
-    s: Seen,
-    reg: &mut [u32; 64],
-    val: &mut [u32; 64],
-    del: &mut [u64; 64],
-    offsets: &mut [u32; 32],
-    contents: &mut [u32; 32],
-    sizes: &mut [u32; 32],
-) -> Seen
-    requires c_bound { c < 4 }
-    requires timely { Timely delays }
-    requires holds { Holds (length memory.now) s (scratch reg.old val.old del.old offsets.old contents.old sizes.old) }
-    requires results_bound { (s.results < 63) × (s.stores < 32) × Flying flying t.0 ready.now }
-    ensures { Does (op_late t.0 ready.now (decode c w)) delays memory.now end.0 (fire_at value.now (decode c w))
-        s (scratch reg.old val.old del.old offsets.old contents.old sizes.old)
-        result (scratch reg.new val.new del.new offsets.new contents.new sizes.new) }
-{
-    let o = opcode(w);
-    if o == 0 {
-        return turns(decode::still(w), end, t, false, value, ready, s);
-    }
-    if o <= 51 {
-        return computes(
-            decode::compute(c, w),
-            t,
-            flying,
-            value,
-            ready,
-            delays,
-            s,
-            reg,
-            val,
-            del,
-        );
-    }
-    if o <= 59 {
-        return accesses(
-            decode::access(c, w),
-            t,
-            flying,
-            value,
-            ready,
-            memory,
-            delays,
-            s,
-            reg,
-            val,
-            del,
-            offsets,
-            contents,
-            sizes,
-        );
-    }
-    if o <= 60 {
-        return copies(
-            decode::copy(c, w),
-            t,
-            flying,
-            value,
-            ready,
-            delays,
-            s,
-            reg,
-            val,
-            del,
-        );
-    }
-    turns(decode::jump(c, w), end, t, flying, value, ready, s)
-}
-
-// All operations of the instruction of this stretch, which `end` follows. `flying`: whether a register may be in flight at tick t.
-pub fn collect(
-    stretch: &[u8],
-    end: Place,
-    t: Count,
-    flying: bool,
-    value: &[u32; 288],
-    ready: &[u64; 288],
-    memory: &[u8],
-    delays: Delays,
-    reg: &mut [u32; 64],
-    val: &mut [u32; 64],
-    del: &mut [u64; 64],
-    offsets: &mut [u32; 32],
-    contents: &mut [u32; 32],
-    sizes: &mut [u32; 32],
-) -> Seen
-    requires own { Own (spots (words stretch.now)) }
-    requires timely { Timely delays }
-    requires results { Results reg.old val.old del.old 0 }
-    requires stores { Stores offsets.old contents.old sizes.old 0 (length memory.now) }
-    requires flying { Flying flying t.0 ready.now }
-    ensures { Gathered (op_late t.0 ready.now) (fire_at value.now) delays
-        memory.now end.0 (map operation (spots (words stretch.now))) result
-        (scratch reg.new val.new del.new offsets.new contents.new sizes.new) }
-{
-    let mut s = Seen {
-        busy: false,
-        fault: FirstFault::None,
-        results: 0,
-        stores: 0,
-        course: Course::Open,
-        place: end,
-    };
-    let mut clusters = 0;
-    for j in 0..stretch.len() / 4 {
-        let w = syllable(stretch, Slot(j));
-        clusters = opened(clusters, w);
-        s = step(
-            opened_by(clusters) as u32,
-            w,
-            end,
-            t,
-            flying,
-            value,
-            ready,
-            memory,
-            delays,
-            s,
-            reg,
-            val,
-            del,
-            offsets,
-            contents,
-            sizes,
-        );
-    }
-    s
 }

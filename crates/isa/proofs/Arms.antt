@@ -16,12 +16,13 @@ unfolding decode
 as_form c s f r a h = rw (format_of_lem f (opcode s) a) h
 
 -- field by field
-pub made : (r : Op) {o o' x x' y y' z z' k k' n n' a a' d d' e e' : ℕ} {w w' : Way}
-    → r ≡ record { opcode = o; s1 = x; s2 = y; b = z; stored = k; immediate = n; offset = a; t = d; carry = e; way = w }
+pub made : {o o' x x' y y' z z' k k' n n' a a' d d' e e' : ℕ} {w w' : Way}
     → o ≡ o' → x ≡ x' → y ≡ y' → z ≡ z' → k ≡ k' → n ≡ n' → a ≡ a' → d ≡ d' → e ≡ e' → w ≡ w'
-    → r ≡ record { opcode = o'; s1 = x'; s2 = y'; b = z'; stored = k'; immediate = n'; offset = a'; t = d'; carry = e'; way = w' }
-made r m o x y z k n a d e w =
-    m ∙ λ i. record { opcode = o i; s1 = x i; s2 = y i; b = z i; stored = k i; immediate = n i; offset = a i; t = d i; carry = e i; way = w i }
+    → ◌≡◌ {A = Op}
+    (record { opcode = o; s1 = x; s2 = y; b = z; stored = k; immediate = n; offset = a; t = d; carry = e; way = w })
+    (record { opcode = o'; s1 = x'; s2 = y'; b = z'; stored = k'; immediate = n'; offset = a'; t = d'; carry = e'; way = w' })
+made o x y z k n a d e w =
+    λ i. record { opcode = o i; s1 = x i; s2 = y i; b = z i; stored = k i; immediate = n i; offset = a i; t = d i; carry = e i; way = w i }
 
 -- the way of a syllable whose form is known
 pub way_of_lem : (s : ℕ) (f : Format) → Among f (opcode s) → way_of s ≡ way_as s f

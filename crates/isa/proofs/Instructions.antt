@@ -142,7 +142,7 @@ drop_start p (suc i) h =
 
 -- ---- the following place
 
-following_end : (p : List ℕ) (i : ℕ) → length p ≤ i → following p i ≡ i
+pub following_end : (p : List ℕ) (i : ℕ) → length p ≤ i → following p i ≡ i
 following_end p i h = rw (drop_of_length-le (spots p) {i = i} (rw spots_length h)) (add-zero i)
 
 following_step : (p : List ℕ) (i : ℕ) → i < length p → following p i ≡ pick (ends (get_or p i 0)) (suc i) (following p (suc i))

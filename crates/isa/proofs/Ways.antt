@@ -1,22 +1,22 @@
 -- The way of a syllable, and where the syllables of a stretch lead.
 use mathlib.Core.Path.{◌≡◌, refl, sym, ◌∙◌}
 use mathlib.Core.Bool.{false, false≢true}
-use mathlib.Core.List.{List, [], ◌∷◌, map}
-use Prim.Native.Nat.{ℕ, suc, ◌≤◌, ◌<◌}
+use mathlib.Core.List.{List, ◌∷◌, map}
+use Prim.Native.Nat.{ℕ, ◌≤◌, ◌<◌}
 use native.Mathlib.Omega.{arith}
-use lib.ListN.{length, get_or, drop, length-map, drop_of_length-le, get_or-map}
-use lib.Seq.{drop-cons}
+use lib.ListN.{length, get_or, length-map, get_or-map}
 use Rattle.isa.specs.Syllable.{opcode, format_of}
 use Rattle.isa.specs.Control.{way_as, way_of, controls}
 use Rattle.isa.specs.Program.{nowhere, spots, spot_at, cluster, operation}
 use Rattle.isa.specs.Touch.{nexts_by, nexts}
 use Rattle.isa.specs.declared.Op.{Op}
+use Rattle.isa.specs.declared.Spot.{Spot}
 use Rattle.isa.specs.declared.Way.{Way}
 use Rattle.isa.specs.declared.Way.TheVariants.{Along, Stop, Goto, Branch, Call, Return}
 use Rattle.isa.specs.declared.Format.{Format}
 use Rattle.isa.specs.declared.Format.TheVariants.{Still, Two, One, Carry, Test, Select, Load, Store, Copy, Jump, Fork}
 use Rattle.isa.proofs.Formats.{Among, format_among}
-use Rattle.isa.proofs.Instructions.{spots_length, spot_syllable}
+use Rattle.isa.proofs.Instructions.{spots_length}
 use Rattle.isa.proofs.Decoded.{decode_way}
 
 pub way_along : (s : ℕ) → 0 < opcode s → opcode s ≤ 60 → way_of s ≡ Along
@@ -56,11 +56,6 @@ operations_size w = length-map (spots w) _ ∙ spots_length w
 pub operations_at_lem : (w : List ℕ) (i : ℕ) → get_or (operations w) i (operation nowhere) ≡ operation (spot_at w i)
 operations_at_lem w i = get_or-map operation (spots w) i nowhere
 
--- s is the i-th syllable of w
-module _ (f : ℕ) (w : List ℕ) (i : ℕ) (h : i < length w) {v : Way} (at : v ≡ way_of (get_or w i 0)) where
-  pub nexts_from : nexts f (drop i (operations w)) ≡ nexts_by v f (nexts f (drop (suc i) (operations w)))
-  nexts_from =
-      rw (drop-cons (operations w) i (operation nowhere) (rw operations_size h), operations_at_lem w i, decode_way (cluster (spot_at w i)) (spot_at w i).syllable, spot_syllable w i, at)
-
-pub nexts_end : (f : ℕ) (w : List ℕ) (i : ℕ) → length w ≤ i → nexts f (drop i (operations w)) ≡ f ∷ []
-nexts_end f w i h = rw (drop_of_length-le (operations w) {i = i} (rw operations_size h))
+pub nexts_step : (f : ℕ) (x : Spot) (xs : List Spot) {w : Way} → w ≡ way_of x.syllable
+    → nexts f (map operation (x ∷ xs)) ≡ nexts_by w f (nexts f (map operation xs))
+nexts_step f x xs e = rw (decode_way (cluster x) x.syllable, e)

@@ -1,5 +1,5 @@
 -- Where a control syllable goes. "Control: stop, 61-63", and by order 1 call and return.
-use Rattle.std.specs.Prelude.{Bool, true, false, ℕ, ◌-◌, eqb}
+use Rattle.std.specs.Prelude.{Bool, true, false, ℕ, ◌-◌, eqb, Option, Some, None}
 use Rattle.word.specs.Choice.{pick}
 use Rattle.isa.specs.Syllable.{bits, opcode, format_of}
 use Rattle.isa.specs.declared.Place.{Place}
@@ -7,8 +7,6 @@ use Rattle.isa.specs.declared.Format.{Format}
 use Rattle.isa.specs.declared.Format.TheVariants.{Still, Two, One, Carry, Test, Select, Load, Store, Copy, Jump, Fork}
 use Rattle.isa.specs.declared.Way.{Way}
 use Rattle.isa.specs.declared.Way.TheVariants.{Along, Stop, Goto, Branch, Call, Return}
-use Rattle.isa.specs.declared.Found.{Found}
-use Rattle.isa.specs.declared.Found.TheVariants.{At, Nothing}
 use Rattle.isa.specs.declared.Turn.{Turn}
 use Rattle.isa.specs.declared.Turn.TheVariants.{Onward, Stops, To, Calls, Back}
 
@@ -50,13 +48,13 @@ controls Return = true
 abbrev pub is_control : ℕ → Bool
 is_control s = controls (way_of s)
 
-abbrev pub target_of : Way → Found
-target_of Along = Nothing
-target_of Stop = Nothing
-target_of (Goto target) = At target
-target_of (Branch wanted target) = At target
-target_of (Call target) = At target
-target_of Return = Nothing
+abbrev pub target_of : Way → Option Place
+target_of Along = None
+target_of Stop = None
+target_of (Goto target) = Some target
+target_of (Branch wanted target) = Some target
+target_of (Call target) = Some target
+target_of Return = None
 
 -- it has no company
 abbrev pub solitary : Way → Bool

@@ -5,3 +5,4 @@ pub mod Decode
 pub mod Program
 pub mod Touch
 pub mod Lowest
+pub mod Walk

@@ -6,26 +6,21 @@ ghost use Rattle.isa.specs.Control.{way_of, controls, is_control, target_of, sol
 ghost use Rattle.isa.specs.Program.{spots, operation};
 ghost use Rattle.isa.specs.Touch.{nexts_by, nexts, listed};
 
-use crate::stretch::syllable;
 use crate::syllable::{bits, opcode};
-use crate::{Found, Nexts, Place, Slot, Turn, Way};
+use crate::walk::spots;
+use crate::{Nexts, Place, Turn, Way};
 
 // Opcode 0: nop, stop, call or return.
 pub fn still(s: u32) -> Way
     requires { opcode s ≡ 0 }
     ensures { result ≡ way_of s }
 {
-    let number = bits(s, 23, 18);
-    if number == 1 {
-        return Way::Stop;
+    match bits(s, 23, 18) {
+        1 => Way::Stop,
+        2 => Way::Call(Place(bits(s, 17, 0) as usize)),
+        3 => Way::Return,
+        _ => Way::Along,
     }
-    if number == 2 {
-        return Way::Call(Place(bits(s, 17, 0) as usize));
-    }
-    if number == 3 {
-        return Way::Return;
-    }
-    Way::Along
 }
 
 // Opcode 61: goto has more bits for its target than br and brf.
@@ -48,31 +43,19 @@ pub fn fork(s: u32) -> Way
 pub fn way(s: u32) -> Way
     ensures { result ≡ way_of s }
 {
-    let o = opcode(s);
-    if o == 0 {
-        return still(s);
+    match opcode(s) {
+        0 => still(s),
+        1..=60 => Way::Along,
+        61 => goto(s),
+        _ => fork(s),
     }
-    if o <= 60 {
-        return Way::Along;
-    }
-    if o <= 61 {
-        return goto(s);
-    }
-    fork(s)
 }
 
 // Control is every way but along.
 pub fn controls(w: Way) -> bool
     ensures { result ≡ controls w }
 {
-    match w {
-        Way::Along => false,
-        Way::Stop => true,
-        Way::Goto(_) => true,
-        Way::Branch(_, _) => true,
-        Way::Call(_) => true,
-        Way::Return => true,
-    }
+    !matches!(w, Way::Along)
 }
 
 pub fn is_control(s: u32) -> bool
@@ -81,16 +64,12 @@ pub fn is_control(s: u32) -> bool
     controls(way(s))
 }
 
-pub fn target(w: Way) -> Found
+pub fn target(w: Way) -> Option<Place>
     ensures { result ≡ target_of w }
 {
     match w {
-        Way::Along => Found::Nothing,
-        Way::Stop => Found::Nothing,
-        Way::Goto(t) => Found::At(t),
-        Way::Branch(_, t) => Found::At(t),
-        Way::Call(t) => Found::At(t),
-        Way::Return => Found::Nothing,
+        Way::Goto(t) | Way::Branch(_, t) | Way::Call(t) => Some(t),
+        Way::Along | Way::Stop | Way::Return => None,
     }
 }
 
@@ -98,42 +77,21 @@ pub fn target(w: Way) -> Found
 pub fn solitary(w: Way) -> bool
     ensures { result ≡ solitary w }
 {
-    match w {
-        Way::Along => false,
-        Way::Stop => true,
-        Way::Goto(_) => false,
-        Way::Branch(_, _) => false,
-        Way::Call(_) => false,
-        Way::Return => true,
-    }
+    matches!(w, Way::Stop | Way::Return)
 }
 
 // Whether it never leads on to the following instruction; after a call its return does.
 pub fn leaves(w: Way) -> bool
     ensures { result ≡ leaves w }
 {
-    match w {
-        Way::Along => false,
-        Way::Stop => true,
-        Way::Goto(_) => true,
-        Way::Branch(_, _) => false,
-        Way::Call(_) => false,
-        Way::Return => true,
-    }
+    matches!(w, Way::Stop | Way::Goto(_) | Way::Return)
 }
 
 // Whether its instruction counts as one that reads every register.
 pub fn reads_every(w: Way) -> bool
     ensures { result ≡ reads_every w }
 {
-    match w {
-        Way::Along => false,
-        Way::Stop => false,
-        Way::Goto(_) => false,
-        Way::Branch(_, _) => false,
-        Way::Call(_) => true,
-        Way::Return => true,
-    }
+    matches!(w, Way::Call(_) | Way::Return)
 }
 
 // Where it sends the instruction that j follows, with b in its branch register.
@@ -144,13 +102,7 @@ pub fn turn(w: Way, b: u32, j: Place) -> Turn
         Way::Along => Turn::Onward,
         Way::Stop => Turn::Stops,
         Way::Goto(t) => Turn::To(t),
-        Way::Branch(wanted, t) => {
-            if b == wanted {
-                Turn::To(t)
-            } else {
-                Turn::To(j)
-            }
-        }
+        Way::Branch(wanted, t) => Turn::To(if b == wanted { t } else { j }),
         Way::Call(t) => Turn::Calls(t),
         Way::Return => Turn::Back,
     }
@@ -162,12 +114,9 @@ fn nexts_by(w: Way, j: Place) -> Nexts
     ensures { (others : List ℕ) → listed result ≡ nexts_by w j.0 others }
 {
     match w {
-        Way::Along => Nexts::Nowhere,
-        Way::Stop => Nexts::Nowhere,
-        Way::Goto(t) => Nexts::One(t),
+        Way::Goto(t) | Way::Call(t) => Nexts::One(t),
         Way::Branch(_, t) => Nexts::Two(t, j),
-        Way::Call(t) => Nexts::One(t),
-        Way::Return => Nexts::Nowhere,
+        Way::Along | Way::Stop | Way::Return => Nexts::Nowhere,
     }
 }
 
@@ -175,8 +124,8 @@ fn nexts_by(w: Way, j: Place) -> Nexts
 pub fn nexts(stretch: &[u8], j: Place) -> Nexts
     ensures { listed result ≡ nexts j.0 (map operation (spots (words stretch.now))) }
 {
-    for i in 0..stretch.len() / 4 {
-        let w = way(syllable(stretch, Slot(i)));
+    for x in spots(stretch) {
+        let w = way(x.syllable);
         if controls(w) {
             return nexts_by(w, j);
         }

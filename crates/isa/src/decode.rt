@@ -3,10 +3,23 @@ ghost use Rattle.std.specs.Prelude.{◌≡◌, ℕ, ◌+◌, ◌≤◌, ◌<◌}
 ghost use Rattle.isa.specs.Syllable.{bits, opcode};
 ghost use Rattle.isa.specs.Register.{general, branch};
 ghost use Rattle.isa.specs.Decode.{immediate_of, offset_of, two_to, decode};
-ghost use Rattle.isa.specs.declared.Way.TheVariants.{Along};
 
 use crate::syllable::{bits, holds, opcode, source, within};
 use crate::{Destinations, Op, Way, control};
+
+// What names no register and no number, and goes along.
+const NOTHING: Op = Op {
+    opcode: 0,
+    s1: 0,
+    s2: 0,
+    b: 0,
+    stored: 0,
+    immediate: 0,
+    offset: 0,
+    t: 0,
+    carry: 0,
+    way: Way::Along,
+};
 
 // The number of general register r of cluster c: register 0 is one for all clusters.
 fn general(c: u32, r: u32) -> u32
@@ -56,71 +69,27 @@ pub fn offset(s: u32) -> u32
     if low < 0x800 { low } else { low + 0xffff_f000 }
 }
 
-// What computes: three registers or two and an immediate, and a destination.
-fn computing(opcode: u32, s1: u32, s2: u32, b: u32, immediate: u32, t: u32, carry: u32) -> Op
-    ensures { result ≡ record { opcode = opcode; s1 = s1; s2 = s2; b = b; stored = 0; immediate = immediate; offset = 0; t = t; carry = carry; way = Along } }
-{
-    Op {
-        opcode,
-        s1,
-        s2,
-        b,
-        stored: 0,
-        immediate,
-        offset: 0,
-        t,
-        carry,
-        way: Way::Along,
-    }
-}
-
-// A load or a store.
-fn accessing(opcode: u32, s1: u32, stored: u32, offset: u32, t: u32) -> Op
-    ensures { result ≡ record { opcode = opcode; s1 = s1; s2 = 0; b = 0; stored = stored; immediate = 0; offset = offset; t = t; carry = 0; way = Along } }
-{
-    Op {
-        opcode,
-        s1,
-        s2: 0,
-        b: 0,
-        stored,
-        immediate: 0,
-        offset,
-        t,
-        carry: 0,
-        way: Way::Along,
-    }
-}
-
-// What goes a way, by a branch register or none.
-fn going(opcode: u32, b: u32, way: Way) -> Op
-    ensures { result ≡ record { opcode = opcode; s1 = 0; s2 = 0; b = b; stored = 0; immediate = 0; offset = 0; t = 0; carry = 0; way = way } }
-{
-    Op {
-        opcode,
-        s1: 0,
-        s2: 0,
-        b,
-        stored: 0,
-        immediate: 0,
-        offset: 0,
-        t: 0,
-        carry: 0,
-        way,
-    }
-}
-
 // s2 is a register or a number.
 fn two(c: u32, s: u32, t: u32) -> Op
     requires { c < 4 }
     ensures { result ≡ two_to c s t }
 {
-    let o = opcode(s);
-    let s1 = general_at(c, s, 12);
+    let op = Op {
+        opcode: opcode(s),
+        s1: general_at(c, s, 12),
+        t,
+        ..NOTHING
+    };
     if holds(s, 11, 11, 0) {
-        computing(o, s1, general_at(c, s, 0), 0, 0, t, 0)
+        Op {
+            s2: general_at(c, s, 0),
+            ..op
+        }
     } else {
-        computing(o, s1, 0, 0, immediate(s), t, 0)
+        Op {
+            immediate: immediate(s),
+            ..op
+        }
     }
 }
 
@@ -129,21 +98,21 @@ fn narrow(c: u32, s: u32) -> Op
     requires { (c < 4) × (19 ≤ opcode s) × (opcode s ≤ 23) }
     ensures { result ≡ decode c s }
 {
-    let o = opcode(s);
-    let t = general_at(c, s, 18);
-    let s1 = general_at(c, s, 12);
-    if o == 23 {
-        computing(
-            o,
-            s1,
-            general_at(c, s, 0),
-            branch_at(c, s, 9),
-            0,
-            t,
-            branch_at(c, s, 6),
-        )
+    let op = Op {
+        opcode: opcode(s),
+        s1: general_at(c, s, 12),
+        t: general_at(c, s, 18),
+        ..NOTHING
+    };
+    if op.opcode == 23 {
+        Op {
+            s2: general_at(c, s, 0),
+            b: branch_at(c, s, 9),
+            carry: branch_at(c, s, 6),
+            ..op
+        }
     } else {
-        computing(o, s1, 0, 0, 0, t, 0)
+        op
     }
 }
 
@@ -156,21 +125,18 @@ pub fn compute(c: u32, s: u32) -> Op
     if within(19, 23, o) {
         return narrow(c, s);
     }
-    if o <= 39 {
-        return two(c, s, general_at(c, s, 18));
+    match o {
+        ..=39 => two(c, s, general_at(c, s, 18)),
+        ..=49 => two(c, s, branch_at(c, s, 18)),
+        _ => Op {
+            opcode: o,
+            s1: general_at(c, s, 12),
+            s2: general_at(c, s, 0),
+            b: branch_at(c, s, 9),
+            t: general_at(c, s, 18),
+            ..NOTHING
+        },
     }
-    if o <= 49 {
-        return two(c, s, branch_at(c, s, 18));
-    }
-    computing(
-        o,
-        general_at(c, s, 12),
-        general_at(c, s, 0),
-        branch_at(c, s, 9),
-        0,
-        general_at(c, s, 18),
-        0,
-    )
 }
 
 // Opcodes 52 to 59: loads and stores. A store reads the register that a load writes.
@@ -178,13 +144,20 @@ pub fn access(c: u32, s: u32) -> Op
     requires { (c < 4) × (52 ≤ opcode s) × (opcode s ≤ 59) }
     ensures { result ≡ decode c s }
 {
-    let o = opcode(s);
-    let t = general_at(c, s, 18);
-    let s1 = general_at(c, s, 12);
-    if o <= 56 {
-        accessing(o, s1, 0, offset(s), t)
+    let op = Op {
+        opcode: opcode(s),
+        s1: general_at(c, s, 12),
+        offset: offset(s),
+        ..NOTHING
+    };
+    let register = general_at(c, s, 18);
+    if op.opcode <= 56 {
+        Op { t: register, ..op }
     } else {
-        accessing(o, s1, t, offset(s), 0)
+        Op {
+            stored: register,
+            ..op
+        }
     }
 }
 
@@ -193,15 +166,12 @@ pub fn copy(c: u32, s: u32) -> Op
     requires { (c < 4) × (opcode s ≡ 60) }
     ensures { result ≡ decode c s }
 {
-    computing(
-        opcode(s),
-        general_at(source(s), s, 12),
-        0,
-        0,
-        0,
-        general_at(c, s, 18),
-        0,
-    )
+    Op {
+        opcode: opcode(s),
+        s1: general_at(source(s), s, 12),
+        t: general_at(c, s, 18),
+        ..NOTHING
+    }
 }
 
 // Opcode 0.
@@ -209,7 +179,11 @@ pub fn still(s: u32) -> Op
     requires { opcode s ≡ 0 }
     ensures { (c : ℕ) → result ≡ decode c s }
 {
-    going(opcode(s), 0, control::still(s))
+    Op {
+        opcode: opcode(s),
+        way: control::still(s),
+        ..NOTHING
+    }
 }
 
 // Opcodes 61 to 63.
@@ -217,11 +191,18 @@ pub fn jump(c: u32, s: u32) -> Op
     requires { (c < 4) × (61 ≤ opcode s) }
     ensures { result ≡ decode c s }
 {
-    let o = opcode(s);
-    if o <= 61 {
-        going(o, 0, control::goto(s))
-    } else {
-        going(o, branch_at(c, s, 21), control::fork(s))
+    match opcode(s) {
+        61 => Op {
+            opcode: 61,
+            way: control::goto(s),
+            ..NOTHING
+        },
+        o => Op {
+            opcode: o,
+            b: branch_at(c, s, 21),
+            way: control::fork(s),
+            ..NOTHING
+        },
     }
 }
 
@@ -229,20 +210,13 @@ pub fn decode(c: u32, s: u32) -> Op
     requires { c < 4 }
     ensures { result ≡ decode c s }
 {
-    let o = opcode(s);
-    if o == 0 {
-        return still(s);
+    match opcode(s) {
+        0 => still(s),
+        ..=51 => compute(c, s),
+        ..=59 => access(c, s),
+        60 => copy(c, s),
+        _ => jump(c, s),
     }
-    if o <= 51 {
-        return compute(c, s);
-    }
-    if o <= 59 {
-        return access(c, s);
-    }
-    if o <= 60 {
-        return copy(c, s);
-    }
-    jump(c, s)
 }
 
 // What the operation writes its value to.

@@ -8,25 +8,19 @@ pub mod stretch;
 pub mod syllable;
 pub mod touch;
 pub mod truth;
+pub mod walk;
 
 // A syllable's index in the program.
-#[derive(Clone, Copy)]
+#[derive(Clone, Copy, PartialEq, Eq, PartialOrd, Ord, Default)]
 pub struct Place(pub usize);
 
 // A syllable's index in its instruction's stretch.
-#[derive(Clone, Copy)]
+#[derive(Clone, Copy, PartialEq, Eq, PartialOrd, Ord, Default)]
 pub struct Slot(pub usize);
 
 // A count of executed instructions.
-#[derive(Clone, Copy)]
+#[derive(Clone, Copy, PartialEq, Eq, PartialOrd, Ord, Default)]
 pub struct Count(pub u64);
-
-// The lowest place that passes a test.
-#[derive(Clone, Copy)]
-pub enum Found {
-    At(Place),
-    Nothing,
-}
 
 // The form of an opcode: what its fields are.
 #[derive(Clone, Copy)]

@@ -19,12 +19,13 @@ pub fn following(program: &[u8], at: Place) -> Place
     ensures { result.0 ≡ following (words program.now) at.0 }
 {
     let n = program.len() / 4;
-    let mut i = at.0;
-    // The end bit is the highest of a syllable's first byte.
-    while i + 1 < n && program[i * 4] >> 7 == 0 {
-        i += 1;
+    for i in at.0..n {
+        // The end bit is the highest of a syllable's first byte.
+        if 0x80 <= program[i * 4] {
+            return Place(i + 1);
+        }
     }
-    Place(i + 1)
+    Place(n)
 }
 
 // Whether an instruction starts at `at`: a walk over the starts, from the program's first.
@@ -35,10 +36,10 @@ pub fn is_start(program: &[u8], at: Place) -> bool
         return false;
     }
     let mut i = Place(0);
-    while i.0 < at.0 {
+    while i < at {
         i = following(program, i);
     }
-    i.0 == at.0
+    i == at
 }
 
 // Where instructions start, in plain words. The function does nothing: its promise is the theorem, so that nobody drops it unseen.

@@ -52,40 +52,19 @@ pub fn source(s: u32) -> u32
 pub fn format(o: u32) -> Format
     ensures { result ≡ format_of o }
 {
-    if o == 0 {
-        return Format::Still;
+    match o {
+        0 => Format::Still,
+        1..=18 | 24..=39 => Format::Two,
+        19..=22 => Format::One,
+        23 => Format::Carry,
+        40..=49 => Format::Test,
+        50..=51 => Format::Select,
+        52..=56 => Format::Load,
+        57..=59 => Format::Store,
+        60 => Format::Copy,
+        61 => Format::Jump,
+        _ => Format::Fork,
     }
-    if o <= 18 {
-        return Format::Two;
-    }
-    if o <= 22 {
-        return Format::One;
-    }
-    if o <= 23 {
-        return Format::Carry;
-    }
-    if o <= 39 {
-        return Format::Two;
-    }
-    if o <= 49 {
-        return Format::Test;
-    }
-    if o <= 51 {
-        return Format::Select;
-    }
-    if o <= 56 {
-        return Format::Load;
-    }
-    if o <= 59 {
-        return Format::Store;
-    }
-    if o <= 60 {
-        return Format::Copy;
-    }
-    if o <= 61 {
-        return Format::Jump;
-    }
-    Format::Fork
 }
 
 // Whether opcode o is one of first..last.

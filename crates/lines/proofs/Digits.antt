@@ -4,8 +4,7 @@ use mathlib.Core.Logic.{◌⊎◌, inl, inr, ⊎_elim}
 use mathlib.Core.Bool.{Bool, true, false, ◌&&◌}
 use mathlib.Core.List.{List, [], ◌∷◌}
 use Prim.Native.Nat.{ℕ, zero, suc, ◌+◌, ◌*◌, ◌^◌, ◌≤◌, ◌<◌}
-use native.Mathlib.Nat.{zero-lt-suc, not-suc-le-zero, le_of_suc-le-suc, pow-suc, pow-succ', pow-le-pow_right, mul-le-mul_right, mul_assoc}
-use native.Mathlib.Numerals.{add-one}
+use native.Mathlib.Nat.{zero-lt-suc, not-suc-le-zero, le_of_suc-le-suc, pow-succ', pow-le-pow_right, mul-le-mul_right, mul_assoc}
 use native.Mathlib.Omega.{arith}
 use lib.Dec.{leb}
 use lib.ListN.{length, get_or, take}
@@ -36,10 +35,6 @@ pub every_snoc : {A : Type 0} (f : A → Bool) (l : List A) (i : ℕ) (d : A) �
 every_snoc f [] i d h = absurd (not-suc-le-zero h)
 every_snoc f (x ∷ l) zero d h = and_one (f x)
 every_snoc f (x ∷ l) (suc i) d h = and_join (f x) (every f (take i l)) (f (get_or l i d)) (every_snoc f l i d (le_of_suc-le-suc h))
-
--- a number of i digits, and one digit more
-pub digits_more : (v d i : ℕ) → v < 16 ^ i → d < 16 → v * 16 + d < 16 ^ (i + 1)
-digits_more v d i h k = let e : 16 ^ (i + 1) ≡ 16 ^ i * 16 = rw add-one (pow-suc 16 i) in omega arith
 
 pub digits_fit : (v i n : ℕ) → v < 16 ^ i → i ≤ n → v < 16 ^ n
 digits_fit v i n h k = let e : 16 ^ i ≤ 16 ^ n = pow-le-pow_right (zero-lt-suc 15) k in omega arith

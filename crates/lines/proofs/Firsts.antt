@@ -8,13 +8,14 @@ use native.Mathlib.Omega.{arith}
 use lib.Dec.{eqb, ltb}
 use lib.ListN.{length, drop}
 use borrow.Author.Tests.{eqb-true, eq-eqb, ne_eqb, lt-ltb, le-ltb, ltb-true}
+use Rattle.std.specs.Prelude.{Option, None, Some}
 use Rattle.word.specs.Choice.{pick}
 use Rattle.word.proofs.Choice.{by_test, bool_same}
 use Rattle.lines.specs.Digits.{is_digit, digit_of, number_from, number_of}
 use Rattle.lines.specs.Lines.{newline, blank, pieces, every, is_number, are_items, items_of, Line, Broken, Holds, first_line}
 use Rattle.lines.specs.Items.{item_from, item_at}
 use Rattle.lines.specs.declared.items.Item.{Item}
-use Rattle.lines.specs.declared.items.Item.TheVariants.{Bad, Inner, Last}
+use Rattle.lines.specs.declared.items.Item.TheVariants.{Inner, Last}
 use Rattle.lines.proofs.Digits.{is_digit_lem}
 
 -- ---- there is always a first piece
@@ -57,10 +58,10 @@ abbrev pub ◌onto◌ : List ℕ → Line → Line
 vs onto Broken = Broken
 vs onto Holds ws lines = Holds (vs ++ ws) lines
 
-abbrev pub after : ℕ → Item → List ℕ → Line
-after d Bad rest = Broken
-after d (Inner v) rest = (v ∷ []) onto first_line d (pieces newline rest)
-after d (Last v) rest = Holds (v ∷ []) (pieces newline rest)
+abbrev pub after : ℕ → Option Item → List ℕ → Line
+after d None rest = Broken
+after d (Some (Inner v)) rest = (v ∷ []) onto first_line d (pieces newline rest)
+after d (Some (Last v)) rest = Holds (v ∷ []) (pieces newline rest)
 
 onto_pick : (t : Bool) (v : ℕ) (ws : List ℕ) (lines : List (List ℕ)) → pick t (Holds (v ∷ ws) lines) Broken ≡ ((v ∷ []) onto pick t (Holds ws lines) Broken)
 onto_pick true v ws lines = refl
@@ -88,9 +89,6 @@ and_none false = refl
 bad_line : (d k v : ℕ) (p : List ℕ) (ps : List (List ℕ)) → good_from d k (pieces blank p) ≡ false → line_from d k v (p ∷ ps) ≡ Broken
 bad_line d k v p [] e = refl
 bad_line d k v p (q ∷ ps) e = rw e
-
-ends_line : (d v b : ℕ) (l : List ℕ) → eqb b newline ≡ true → line_from d 0 v (pieces newline (b ∷ l)) ≡ Holds (v ∷ []) (pieces newline l)
-ends_line d v b l n = rw (n, (cut_of newline l).are)
 
 ends_item : (d v b : ℕ) (p : List ℕ) (ps : List (List ℕ)) → eqb b blank ≡ true
     → line_from d 0 v ((b ∷ p) ∷ ps) ≡ ((v ∷ []) onto first_line d (p ∷ ps))
@@ -130,7 +128,7 @@ digit_line d k v b p (q ∷ ps) h s = let c = cut_of blank p in rw (s, c.are, h,
 digit_item : (k v b : ℕ) (l : List ℕ) → is_digit b ≡ true → item_from (suc k) v (b ∷ l) ≡ item_from k (v * 16 + digit_of b) l
 digit_item k v b l h = rw (h, ltb_suc k (length l))
 
-no_digit_item : (k v b : ℕ) (l : List ℕ) → is_digit b ≡ false → item_from (suc k) v (b ∷ l) ≡ Bad
+no_digit_item : (k v b : ℕ) (l : List ℕ) → is_digit b ≡ false → item_from (suc k) v (b ∷ l) ≡ None
 no_digit_item k v b l h = rw (h, and_none (ltb (suc k) (suc (length l))))
 
 no_digit_line : (d k v b : ℕ) (l : List ℕ) → is_digit b ≡ false → (t : Bool) → eqb b newline ≡ t → line_from d (suc k) v (pieces newline (b ∷ l)) ≡ Broken
@@ -156,7 +154,7 @@ first_from d zero v (b ∷ l) = at_zero d v b l (eqb b newline) (eqb b blank) re
 first_from d (suc k) v (b ∷ l) =
     let rest = first_from d k (v * 16 + digit_of b) l in
     ⊎_elim
-    (λ h. digit_step d k v b l h ∙ rest ∙ ap (λ (i : Item). after d i (drop (suc k) l)) (sym (digit_item k v b l h)))
+    (λ h. digit_step d k v b l h ∙ rest ∙ ap (λ (i : Option Item). after d i (drop (suc k) l)) (sym (digit_item k v b l h)))
     (λ h. rw (no_digit_item k v b l h) (no_digit_line d k v b l h (eqb b newline) refl))
     (by_test (is_digit b))
 

@@ -1,53 +1,48 @@
--- Lines 2 and 3: one item, and the lines after it.
-use mathlib.Core.Path.{◌≡◌, refl, sym, ap, ◌∙◌}
+-- Lines 2 and 3: one number, and the lines after it.
+use mathlib.Core.Path.{◌≡◌, refl, ap, ◌∙◌}
 use mathlib.Core.List.{List, [], ◌∷◌}
-use Prim.Native.Nat.{ℕ, ◌+◌}
+use Prim.Native.Nat.{ℕ}
 use lib.ListN.{drop}
-use lib.Seq.{drop-drop}
-use Rattle.lines.specs.Lines as lines
-use Rattle.lines.specs.Lines.{newline, pieces, Line, Broken, Holds, first_line, program_from, from_program, from_third, from_second}
-use Rattle.lines.specs.Items.{item_at}
+use Rattle.std.specs.Prelude.{Option, None, Some}
+use Rattle.lines.specs.Lines.{newline, pieces, Line, Broken, Holds, first_line, from_third, from_second}
+use Rattle.lines.specs.Items.{item_at, single}
 use Rattle.lines.specs.declared.items.Item.{Item}
-use Rattle.lines.specs.declared.items.Item.TheVariants.{Bad, Inner, Last}
+use Rattle.lines.specs.declared.items.Item.TheVariants.{Inner, Last}
 use Rattle.lines.proofs.Firsts.{◌onto◌, after, first_line_lem}
-use Rattle.lines.proofs.Programs.{Some, some}
+use Rattle.lines.proofs.Programs.{HasItem, some}
 
-third_two : (table : List ℕ) (memory v : ℕ) (l : Line) → Some l → from_third table memory ((v ∷ []) onto l) ≡ lines.Bad 3
-unfolding Some
-third_two table memory v Broken s = refl
-third_two table memory v (Holds [] ps) s = absurd s
-third_two table memory v (Holds (w ∷ ws) ps) s = refl
+-- two items or more
+two : (v : ℕ) (l : Line) → HasItem l → single ((v ∷ []) onto l) ≡ Broken
+unfolding HasItem
+two v Broken s = refl
+two v (Holds [] ps) s = absurd s
+two v (Holds (w ∷ ws) ps) s = refl
 
-second_two : (table : List ℕ) (v : ℕ) (l : Line) → Some l → from_second table ((v ∷ []) onto l) ≡ lines.Bad 2
-unfolding Some
-second_two table v Broken s = refl
-second_two table v (Holds [] ps) s = absurd s
-second_two table v (Holds (w ∷ ws) ps) s = refl
+module _ (t : List ℕ) where
+  by_item : {item : Option Item} → item_at 8 t ≡ item → single (first_line 8 (pieces newline t)) ≡ single (after 8 item (drop 9 t))
+  by_item e = ap single (first_line_lem 8 t ∙ ap (λ (i : Option Item). after 8 i (drop 9 t)) e)
 
-by_item : (t : List ℕ) {item : Item} → item ≡ item_at 8 t → first_line 8 (pieces newline t) ≡ after 8 item (drop 9 t)
-by_item t e = first_line_lem 8 t ∙ ap (λ (i : Item). after 8 i (drop 9 t)) (sym e)
+  pub single_bad : item_at 8 t ≡ None → single (first_line 8 (pieces newline t)) ≡ Broken
+  single_bad e = by_item e
 
-module _ (t table : List ℕ) (memory : ℕ) where
-  pub third_bad : Bad ≡ item_at 8 t → lines.Bad 3 ≡ from_third table memory (first_line 8 (pieces newline t))
-  third_bad e = sym (ap (from_third table memory) (by_item t e))
+  pub single_inner : {v : ℕ} → item_at 8 t ≡ Some (Inner v) → single (first_line 8 (pieces newline t)) ≡ Broken
+  single_inner {v} e = by_item e ∙ two v (first_line 8 (pieces newline (drop 9 t))) (some 8 (pieces newline (drop 9 t)))
 
-  pub third_inner : {v : ℕ} → Inner v ≡ item_at 8 t → lines.Bad 3 ≡ from_third table memory (first_line 8 (pieces newline t))
-  third_inner {v} e = sym (ap (from_third table memory) (by_item t e) ∙ third_two table memory v (first_line 8 (pieces newline (drop 9 t))) (some 8 (pieces newline (drop 9 t))))
+  pub single_last : {v : ℕ} {behind : List ℕ} → behind ≡ drop 9 t → item_at 8 t ≡ Some (Last v)
+      → single (first_line 8 (pieces newline t)) ≡ Holds (v ∷ []) (pieces newline behind)
+  single_last d e = rw d (by_item e)
 
-  pub third_last : {n : ℕ} {rest : List ℕ} → rest ≡ drop 9 t → Last n ≡ item_at 8 t
-      → from_program table memory n (program_from 4 (pieces newline rest)) ≡ from_third table memory (first_line 8 (pieces newline t))
-  third_last r e = rw r (sym (ap (from_third table memory) (by_item t e)))
+-- what lines 2 and 3 say is what a line of one number says
+pub second_single : (table : List ℕ) (l : Line) → from_second table l ≡ from_second table (single l)
+second_single table Broken = refl
+second_single table (Holds [] ps) = refl
+second_single table (Holds (n ∷ []) ps) = refl
+second_single table (Holds (n ∷ m ∷ more) ps) = refl
 
-module _ (t table : List ℕ) where
-  pub second_bad : Bad ≡ item_at 8 t → lines.Bad 2 ≡ from_second table (first_line 8 (pieces newline t))
-  second_bad e = sym (ap (from_second table) (by_item t e))
+pub third_single : (table : List ℕ) (memory : ℕ) (l : Line) → from_third table memory l ≡ from_third table memory (single l)
+third_single table memory Broken = refl
+third_single table memory (Holds [] ps) = refl
+third_single table memory (Holds (n ∷ []) ps) = refl
+third_single table memory (Holds (n ∷ m ∷ more) ps) = refl
 
-  pub second_inner : {v : ℕ} → Inner v ≡ item_at 8 t → lines.Bad 2 ≡ from_second table (first_line 8 (pieces newline t))
-  second_inner {v} e = sym (ap (from_second table) (by_item t e) ∙ second_two table v (first_line 8 (pieces newline (drop 9 t))) (some 8 (pieces newline (drop 9 t))))
-
-  pub second_last : {memory : ℕ} {rest : List ℕ} → rest ≡ drop 9 t → Last memory ≡ item_at 8 t
-      → from_third table memory (first_line 8 (pieces newline rest)) ≡ from_second table (first_line 8 (pieces newline t))
-  second_last r e = rw r (sym (ap (from_second table) (by_item t e)))
-
-pub nine_more : (text : List ℕ) (a b : ℕ) → b ≡ a + 9 → drop b text ≡ drop 9 (drop a text)
-nine_more text a b e = rw (e, drop-drop 9 a text)
+pub ruleset single_steps = (single_bad, single_inner, single_last)

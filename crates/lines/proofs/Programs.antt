@@ -2,23 +2,22 @@
 use mathlib.Core.Path.{◌≡◌, refl, sym, ap, ◌∙◌}
 use mathlib.Core.Bool.{Bool, true, false, ◌&&◌, ◌||◌}
 use mathlib.Core.List.{List, [], ◌∷◌, ◌++◌, map, append_assoc, append-nil}
-use Prim.Native.Nat.{ℕ, suc, ◌+◌, ◌*◌, ◌≤◌, ◌<◌}
+use Prim.Native.Nat.{ℕ, suc, ◌+◌, ◌<◌}
 use native.Mathlib.Numerals.{add-one}
 use native.Mathlib.Omega.{arith}
 use lib.Dec.{eqb}
-use lib.ListN.{length, take, drop, length-append, length-drop, drop_of_length-le}
-use lib.Seq.{drop-drop, sets-eq, take_at, length-take-le}
+use lib.ListN.{length, drop, length-drop}
 use borrow.Author.Tests.{eqb-true, eqb-false}
+use Rattle.std.specs.Prelude.{Option, None, Some}
 use Rattle.word.specs.Choice.{pick}
-use Rattle.word.specs.Bytes.{bytes, put_word}
-use Rattle.lines.specs.declared.reading.Upto.TheVariants.{At, Nothing}
+use Rattle.word.specs.Bytes.{bytes}
 use Rattle.isa.specs.Syllable.{ends}
 use Rattle.lines.specs.Digits.{number_of}
 use Rattle.lines.specs.Lines.{newline, blank, cut, pieces, every, is_number, are_items, items_of, Line, Broken, Holds, first_line, ends_once, word_bytes, Program, BadLine, Code, ◌before◌, program_from}
-use Rattle.lines.specs.Items.{item_at, judged, syllable_at, put_item, line_after}
+use Rattle.lines.specs.Items.{item_at, judged, syllable_at}
 use Rattle.lines.specs.declared.items.Item.{Item}
-use Rattle.lines.specs.declared.items.Item.TheVariants.{Bad, Inner, Last}
-use Rattle.lines.proofs.Finding.{inner_long}
+use Rattle.lines.specs.declared.items.Item.TheVariants.{Inner, Last}
+use Rattle.lines.proofs.Finding.{found_long}
 use Rattle.lines.proofs.Firsts.{cut_of, ◌onto◌, after, first_line_lem}
 
 pub before_append : (xs ys : List ℕ) (p : Program) → ((xs ++ ys) before p) ≡ (xs before (ys before p))
@@ -64,31 +63,31 @@ by_line_lem i b t =
 -- ---- a line by its first syllable
 
 -- a line has an item
-unfoldable pub Some : Line → Type 0
-Some Broken = Unit {0}
-Some (Holds [] lines) = ⊥
-Some (Holds (w ∷ ws) lines) = Unit {0}
+unfoldable pub HasItem : Line → Type 0
+HasItem Broken = Unit {0}
+HasItem (Holds [] lines) = ⊥
+HasItem (Holds (w ∷ ws) lines) = Unit {0}
 
-some_picked : (t : Bool) (w : ℕ) (ws : List ℕ) (lines : List (List ℕ)) → Some (pick t (Holds (w ∷ ws) lines) Broken)
-unfolding Some
+some_picked : (t : Bool) (w : ℕ) (ws : List ℕ) (lines : List (List ℕ)) → HasItem (pick t (Holds (w ∷ ws) lines) Broken)
+unfolding HasItem
 some_picked true w ws lines = tt
 some_picked false w ws lines = tt
 
-pub some : (d : ℕ) (ps : List (List ℕ)) → Some (first_line d ps)
-unfolding Some
+pub some : (d : ℕ) (ps : List (List ℕ)) → HasItem (first_line d ps)
+unfolding HasItem
 some d [] = tt
 some d (p ∷ []) = tt
 some d (p ∷ q ∷ ps) = let c = cut_of blank p in rw c.are (some_picked (is_number d c.first && every (is_number d) c.others) (number_of c.first) (map number_of c.others) (q ∷ ps))
 
 -- bit 31 before a blank
-ended_early : (i w : ℕ) (l : Line) → Some l → ends w ≡ true → by_line i ((w ∷ []) onto l) ≡ BadLine i
-unfolding by_line Some
+ended_early : (i w : ℕ) (l : Line) → HasItem l → ends w ≡ true → by_line i ((w ∷ []) onto l) ≡ BadLine i
+unfolding by_line HasItem
 ended_early i w Broken s e = refl
 ended_early i w (Holds [] lines) s e = absurd s
 ended_early i w (Holds (v ∷ ws) lines) s e = rw e
 
-goes_on_lem : (i w : ℕ) (l : Line) → Some l → ends w ≡ false → by_line i ((w ∷ []) onto l) ≡ (bytes 4 w before by_line i l)
-unfolding by_line Some
+goes_on_lem : (i w : ℕ) (l : Line) → HasItem l → ends w ≡ false → by_line i ((w ∷ []) onto l) ≡ (bytes 4 w before by_line i l)
+unfolding by_line HasItem
 goes_on_lem i w Broken s e = refl
 goes_on_lem i w (Holds [] lines) s e = absurd s
 goes_on_lem i w (Holds (v ∷ ws) lines) s e = rw e (longer (ends_once (v ∷ ws)))
@@ -101,10 +100,10 @@ goes_on_lem i w (Holds (v ∷ ws) lines) s e = rw e (longer (ends_once (v ∷ ws
 
 -- ---- a program by its first syllable
 
-abbrev pub after_syllable : ℕ → Item → List ℕ → Program
-after_syllable i Bad rest = BadLine i
-after_syllable i (Inner w) rest = bytes 4 w before program_from i (pieces newline rest)
-after_syllable i (Last w) rest = bytes 4 w before program_from (suc i) (pieces newline rest)
+abbrev pub after_syllable : ℕ → Option Item → List ℕ → Program
+after_syllable i None rest = BadLine i
+after_syllable i (Some (Inner w)) rest = bytes 4 w before program_from i (pieces newline rest)
+after_syllable i (Some (Last w)) rest = bytes 4 w before program_from (suc i) (pieces newline rest)
 
 more : (i w : ℕ) (rest : List ℕ) → 0 < length rest → ends w ≡ false
     → by_line i ((w ∷ []) onto first_line 8 (pieces newline rest)) ≡ (bytes 4 w before program_from i (pieces newline rest))
@@ -119,12 +118,12 @@ none i w [] h = refl
 none i w (x ∷ rest) h = absurd (omega arith)
 
 last : (i w : ℕ) (rest : List ℕ) (e : Bool)
-    → pick e (word_bytes (w ∷ []) before program_from (suc i) (pieces newline rest)) (BadLine i) ≡ after_syllable i (pick e (Last w) Bad) rest
+    → pick e (word_bytes (w ∷ []) before program_from (suc i) (pieces newline rest)) (BadLine i) ≡ after_syllable i (pick e (Some (Last w)) None) rest
 last i w rest true = refl
 last i w rest false = refl
 
 inner : (i w : ℕ) (text rest : List ℕ) → length text ≡ 9 + length rest → (e n : Bool) → ends w ≡ e → eqb (length text) 9 ≡ n
-    → by_line i ((w ∷ []) onto first_line 8 (pieces newline rest)) ≡ after_syllable i (pick (e || n) Bad (Inner w)) rest
+    → by_line i ((w ∷ []) onto first_line 8 (pieces newline rest)) ≡ after_syllable i (pick (e || n) None (Some (Inner w))) rest
 inner i w text rest l true n e k = ended_early i w (first_line 8 (pieces newline rest)) (some 8 (pieces newline rest)) e
 inner i w text rest l false true e k = let m = eqb-true (length text) 9 k in none i w rest (omega arith)
 inner i w text rest l false false e k = more i w rest (by_zero rest (λ z. eqb-false (length text) 9 k (omega arith))) e
@@ -133,13 +132,13 @@ inner i w text rest l false false e k = more i w rest (by_zero rest (λ z. eqb-f
     by_zero [] z = absurd (z refl)
     by_zero (x ∷ l) z = omega arith
 
-by_item : (i b : ℕ) (t : List ℕ) (item : Item) → item_at 8 (b ∷ t) ≡ item
+by_item : (i b : ℕ) (t : List ℕ) (item : Option Item) → item_at 8 (b ∷ t) ≡ item
     → by_line i (after 8 item (drop 9 (b ∷ t))) ≡ after_syllable i (judged (b ∷ t) item) (drop 9 (b ∷ t))
 unfolding by_line
-by_item i b t Bad e = refl
-by_item i b t (Last w) e = last i w (drop 9 (b ∷ t)) (ends w)
-by_item i b t (Inner w) e =
-    let h = inner_long 8 (b ∷ t) (sym e) in
+by_item i b t None e = refl
+by_item i b t (Some (Last w)) e = last i w (drop 9 (b ∷ t)) (ends w)
+by_item i b t (Some (Inner w)) e =
+    let h = found_long 8 (b ∷ t) e in
     inner i w (b ∷ t) (drop 9 (b ∷ t)) (omega (arith, length-drop 9 (b ∷ t))) (ends w) (eqb (length (b ∷ t)) 9) refl refl
 
 pub by_syllable : (i : ℕ) (t : List ℕ) → 0 < length t → program_from i (pieces newline t) ≡ after_syllable i (syllable_at t) (drop 9 t)
@@ -148,69 +147,38 @@ by_syllable i [] h = absurd (omega arith)
 by_syllable i (b ∷ t) h =
     by_line_lem i b t ∙ ap (by_line i) (first_line_lem 8 (b ∷ t)) ∙ by_item i b t (item_at 8 (b ∷ t)) refl
 
--- ---- one syllable more
-
-pub put_more : (program : List ℕ) (n w : ℕ) → n * 4 + 4 ≤ length program → take ((n + 1) * 4) (put_word (n * 4) w program) ≡ take (n * 4) program ++ bytes 4 w
-put_more program n w h =
-    let l : List ℕ = take (n * 4) program in
-    let e : (n + 1) * 4 ≡ n * 4 + 4 = omega arith in
-    let k : length (l ++ bytes 4 w) ≡ n * 4 + 4 = omega (arith, length-append l (bytes 4 w), length-take-le (n * 4) program (omega arith)) in
-    rw e
-    (ap (take (n * 4 + 4)) (sets-eq (bytes 4 w) program (n * 4) h)
-    ∙ take_at (l ++ bytes 4 w) (drop (n * 4 + 4) program) (n * 4 + 4) k)
-
 -- ---- the loop over syllables: the program is what was put, and what the lines from here on hold
 
-abbrev pub Left : Program → List ℕ → ℕ → ℕ → ℕ → List ℕ → Type 0
-Left whole text from n line program = whole ≡ (take (n * 4) program before program_from line (pieces newline (drop (from + n * 9) text)))
+pub record Left (whole : Program) (program : List ℕ) (line : ℕ) (rest : List ℕ) : Type 0 where
+  pub says : whole ≡ (program before program_from line (pieces newline rest))
 
 before_none : (p : Program) → p ≡ ([] before p)
 before_none (BadLine i) = refl
 before_none (Code zs) = refl
 
-pub left : (text program : List ℕ) (from : ℕ) → Left (program_from 4 (pieces newline (drop from text))) text from 0 4 program
-left text program from = let e : from + 0 * 9 ≡ from = omega arith in rw e (before_none (program_from 4 (pieces newline (drop from text))))
+pub left : (text : List ℕ) → Left (program_from 4 (pieces newline text)) [] 4 text
+left text = record { says = before_none (program_from 4 (pieces newline text)) }
 
-module _ (whole : Program) (text : List ℕ) (from n line : ℕ) (program : List ℕ) (e : Left whole text from n line program) where
-  found : from + n * 9 < length text
-      → whole ≡ (take (n * 4) program before after_syllable line (syllable_at (drop (from + n * 9) text)) (drop (from + (n + 1) * 9) text))
-  found h =
-      let at : ℕ = from + n * 9 in
-      let k : from + (n + 1) * 9 ≡ at + 9 = omega arith in
-      let l : 0 < length (drop at text) = omega (arith, length-drop at text) in
-      e ∙ ap (λ (p : Program). take (n * 4) program before p) (by_syllable line (drop at text) l) ∙ rw (k, drop-drop 9 at text)
-
-  pub left_bad : from + n * 9 < length text → Nothing ≡ line_after line (syllable_at (drop (from + n * 9) text)) → BadLine line ≡ whole
-  left_bad h b = by (syllable_at (drop (from + n * 9) text)) b (found h)
+module _ {whole : Program} {program : List ℕ} {line : ℕ} {rest : List ℕ} (e : Left whole program line rest) where
+  pub left_end : length rest ≡ 0 → Code program ≡ whole
+  left_end h = sym (by rest h e.says)
     where
-      by : (item : Item) → Nothing ≡ line_after line item → whole ≡ (take (n * 4) program before after_syllable line item (drop (from + (n + 1) * 9) text))
-          → BadLine line ≡ whole
-      by Bad b f = sym f
-      by (Inner w) b f = let z : ◌≡◌ {A = ℕ} 0 1 = cc in absurd (omega arith)
-      by (Last w) b f = let z : ◌≡◌ {A = ℕ} 0 1 = cc in absurd (omega arith)
+      by : (l : List ℕ) → length l ≡ 0 → whole ≡ (program before program_from line (pieces newline l)) → whole ≡ Code program
+      by [] h f = f ∙ ap Code (append-nil program)
+      by (b ∷ l) h f = absurd (omega arith)
 
-  one_more : (w next : ℕ) → n * 4 + 4 ≤ length program
-      → whole ≡ (take (n * 4) program before (bytes 4 w before program_from next (pieces newline (drop (from + (n + 1) * 9) text))))
-      → Left whole text from (n + 1) next (put_word (n * 4) w program)
-  one_more w next h f = rw (put_more program n w h) (f ∙ sym (before_append (take (n * 4) program) (bytes 4 w) (program_from next (pieces newline (drop (from + (n + 1) * 9) text)))))
+  module _ (h : 0 < length rest) where
+    found : {item : Option Item} → syllable_at rest ≡ item → whole ≡ (program before after_syllable line item (drop 9 rest))
+    found i = e.says ∙ ap (λ (p : Program). program before p) (by_syllable line rest h) ∙ rw (sym i)
 
-  pub left_more : (next : ℕ) → from + n * 9 < length text → n * 4 + 4 ≤ length program
-      → At next ≡ line_after line (syllable_at (drop (from + n * 9) text))
-      → Left whole text from (n + 1) next (put_item n (syllable_at (drop (from + n * 9) text)) program)
-  left_more next h l b = by (syllable_at (drop (from + n * 9) text)) b (found h)
-    where
-      by : (item : Item) → At next ≡ line_after line item → whole ≡ (take (n * 4) program before after_syllable line item (drop (from + (n + 1) * 9) text))
-          → Left whole text from (n + 1) next (put_item n item program)
-      by Bad b f = let z : ◌≡◌ {A = ℕ} 0 1 = cc in absurd (omega arith)
-      by (Inner w) b f = let k : line ≡ next = cc in one_more w next l (rw k at f)
-      by (Last w) b f = let k : line + 1 ≡ next = cc in one_more w next l (f ∙ rw (← k, add-one line))
+    pub left_bad : syllable_at rest ≡ None → BadLine line ≡ whole
+    left_bad i = sym (found i)
 
-  pub left_end : length text ≤ from + n * 9 → Code (take (n * 4) program) ≡ whole
-  left_end h =
-      let d : drop (from + n * 9) text ≡ [] = drop_of_length-le text h in
-      sym (rw d at e ∙ ap Code (append-nil (take (n * 4) program)))
+    module _ {w : ℕ} {more behind : List ℕ} (m : more ≡ program ++ bytes 4 w) (d : behind ≡ drop 9 rest) where
+      pub left_inner : syllable_at rest ≡ Some (Inner w) → Left whole more line behind
+      left_inner i = rw (m, d) (record { says = found i ∙ sym (before_append program (bytes 4 w) (program_from line (pieces newline (drop 9 rest)))) })
 
-pub line_after_lem : (line : ℕ) (item : Item) {next : ℕ} → At next ≡ line_after line item → next ≤ line + 1
-line_after_lem line Bad e = let z : ◌≡◌ {A = ℕ} 0 1 = cc in absurd (omega arith)
-line_after_lem line (Inner w) {next} e = let k : next ≡ line = cc in omega arith
-line_after_lem line (Last w) {next} e = let k : next ≡ line + 1 = cc in omega arith
+      pub left_last : syllable_at rest ≡ Some (Last w) → Left whole more (line + 1) behind
+      left_last i = rw (m, d, add-one) (record { says = found i ∙ sym (before_append program (bytes 4 w) (program_from (suc line) (pieces newline (drop 9 rest)))) })
+
+pub ruleset program_steps = (left, left_bad, left_inner, left_last, left_end)

@@ -1,83 +1,54 @@
--- Private to the reading, nobody has to believe it: what the code finds at a place of the text, an item of so many digits, and the blank or the newline after it.
-use Rattle.std.specs.Prelude.{◌&&◌, ◌||◌, List, ℕ, ◌+◌, ◌*◌, ◌≤◌, eqb, ltb, length, get_or, take, drop}
+-- Private to the reading, nobody has to believe it: what the code finds at the start of a text, an item of so many digits, and the blank or the newline after it.
+use Rattle.std.specs.Prelude.{◌&&◌, ◌||◌, List, [], ◌∷◌, ℕ, eqb, ltb, length, get_or, take, Option, None, Some, Result, Ok, Err}
 use Rattle.word.specs.Choice.{pick}
-use Rattle.word.specs.Bytes.{put_word}
-use Rattle.lines.specs.declared.reading.Upto.{Upto}
-use Rattle.lines.specs.declared.reading.Upto.TheVariants.{At, Nothing}
 use Rattle.isa.specs.Syllable.{ends}
 use Rattle.lines.specs.Digits.{is_digit, number_from, number_of}
 use Rattle.lines.specs.Lines as lines
-use Rattle.lines.specs.Lines.{newline, blank, pieces, every, Line, Holds, Broken, Program, BadLine, Code, Said, Read}
-use Rattle.lines.specs.declared.items.Number.{Number}
-use Rattle.lines.specs.declared.items.Number.TheVariants.{Is, Not}
+use Rattle.lines.specs.Lines.{newline, blank, every, Line, Holds, Broken, Program, Code, Said, Read}
 use Rattle.lines.specs.declared.items.Item.{Item}
-use Rattle.lines.specs.declared.items.Item.TheVariants.{Bad, Inner, Last}
-use Rattle.lines.specs.declared.reading.Syllables.{Syllables}
-use Rattle.lines.specs.declared.reading.Syllables.TheVariants.{Unread, Count}
-use Rattle.lines.specs.declared.reading.Sizes.{Sizes}
-use Rattle.lines.specs.declared.reading.Reading.{Reading}
-use Rattle.lines.specs.declared.reading.Reading.TheVariants.{Line as BadAt, Text}
+use Rattle.lines.specs.declared.items.Item.TheVariants.{Inner, Last}
+use Rattle.lines.specs.declared.reading.BadLine.{BadLine}
+use Rattle.lines.specs.declared.reading.Text.{Text}
 
-abbrev pub number_in : List ℕ → Number
-number_in item = pick (every is_digit item) (Is (number_of item)) Not
+abbrev pub number_in : List ℕ → Option ℕ
+number_in item = pick (every is_digit item) (Some (number_of item)) None
 
-abbrev pub followed : ℕ → ℕ → Item
-followed b v = pick (eqb b blank) (Inner v) (pick (eqb b newline) (Last v) Bad)
+abbrev pub followed : ℕ → ℕ → Option Item
+followed b v = pick (eqb b blank) (Some (Inner v)) (pick (eqb b newline) (Some (Last v)) None)
 
 -- k digits more, after what was read before them
-abbrev pub item_from : ℕ → ℕ → List ℕ → Item
-item_from k v text = pick (ltb k (length text) && every is_digit (take k text)) (followed (get_or text k 0) (number_from v (take k text))) Bad
+abbrev pub item_from : ℕ → ℕ → List ℕ → Option Item
+item_from k v text = pick (ltb k (length text) && every is_digit (take k text)) (followed (get_or text k 0) (number_from v (take k text))) None
 
-unfoldable pub item_at : ℕ → List ℕ → Item
+unfoldable pub item_at : ℕ → List ℕ → Option Item
 item_at digits text = item_from digits 0 text
 
 -- a syllable: bit 31 before a newline only, and more of the text after a blank
-abbrev pub judged : List ℕ → Item → Item
-judged text Bad = Bad
-judged text (Inner w) = pick (ends w || eqb (length text) 9) Bad (Inner w)
-judged text (Last w) = pick (ends w) (Last w) Bad
+abbrev pub judged : List ℕ → Option Item → Option Item
+judged text None = None
+judged text (Some (Inner w)) = pick (ends w || eqb (length text) 9) None (Some (Inner w))
+judged text (Some (Last w)) = pick (ends w) (Some (Last w)) None
 
-unfoldable pub syllable_at : List ℕ → Item
+unfoldable pub syllable_at : List ℕ → Option Item
 syllable_at text = judged text (item_at 8 text)
 
--- a syllable, put into the program as its n-th
-abbrev pub put_item : ℕ → Item → List ℕ → List ℕ
-put_item n Bad program = program
-put_item n (Inner w) program = put_word (n * 4) w program
-put_item n (Last w) program = put_word (n * 4) w program
+abbrev pub value_of : Item → ℕ
+value_of (Inner v) = v
+value_of (Last v) = v
 
--- the line after a syllable of line i, if the syllable is good
-abbrev pub line_after : ℕ → Item → Upto
-line_after i Bad = Nothing
-line_after i (Inner w) = At i
-line_after i (Last w) = At (i + 1)
+-- a line of one number, and no other
+abbrev pub single : Line → Line
+single Broken = Broken
+single (Holds [] lines) = Broken
+single (Holds (n ∷ []) lines) = Holds (n ∷ []) lines
+single (Holds (n ∷ m ∷ more) lines) = Broken
 
--- what the code's answers say, with the arrays that they count in
-abbrev pub line_held : Upto → List ℕ → List ℕ → Line
-line_held Nothing table text = Broken
-line_held (At n) table text = Holds (take n table) (pieces newline (drop (n * 3) text))
+-- what the code's answers say
+abbrev pub program_held : Result (Unit {0}) BadLine → List ℕ → Program
+program_held (Err e) program = lines.BadLine e.0
+program_held (Ok u) program = Code program
 
-abbrev pub Within : Upto → List ℕ → Type 0
-Within Nothing text = Unit {0}
-Within (At n) text = n * 3 ≤ length text
-
-abbrev pub program_held : Syllables → List ℕ → Program
-program_held (Unread i) program = BadLine i
-program_held (Count n) program = Code (take (n * 4) program)
-
-abbrev pub said_in : Sizes → List ℕ → List ℕ → Said
-said_in s table program =
-    record { table = take s.table table; memory = s.memory; n = s.n; program = take (s.program * 4) program }
-
-abbrev pub held : Reading → List ℕ → List ℕ → Read
-held (BadAt i) table program = lines.Bad i
-held (Text s) table program = lines.Good (said_in s table program)
-
--- the counts are of bytes in the arrays
-abbrev pub Counted : Syllables → Type 0
-Counted (Unread i) = Unit {0}
-Counted (Count n) = n * 4 ≤ 16384
-
-abbrev pub Kept : Reading → Type 0
-Kept (BadAt i) = Unit {0}
-Kept (Text s) = (s.table ≤ 10923) × (s.program * 4 ≤ 16384)
+abbrev pub reading_of : Read → Result Text BadLine
+reading_of (lines.Bad i) = Err (record { 0 = i })
+reading_of (lines.Good s) =
+    Ok (record { table = record { items = s.table }; memory = s.memory; n = s.n; program = record { items = s.program } })

@@ -1,116 +1,80 @@
-// One item of a text, with the blank or the newline after it.
-ghost use Rattle.std.specs.Prelude.{◌≡◌, true, ◌||◌, ◌+◌, ◌≤◌, ◌<◌, eqb, length, drop};
+// One item at the start of a text, with the blank or the newline after it.
+ghost use Rattle.std.specs.Prelude.{◌≡◌, ◌+◌, ◌^◌, ◌≤◌, ◌<◌, length, drop, IfSome, MatchOption};
 ghost use Rattle.word.specs.Choice.{pick};
-ghost use Rattle.isa.specs.Syllable.{ends};
 ghost use Rattle.lines.specs.Digits.{is_digit, digit_of};
-ghost use Rattle.lines.specs.Items.{number_in, item_at, followed, syllable_at};
-ghost use Rattle.lines.specs.declared.items.Item.TheVariants.{Bad, Inner, Last};
+ghost use Rattle.lines.specs.Items.{number_in, followed, item_at, syllable_at, value_of};
 
-use isa::syllable;
-
-#[derive(Clone, Copy)]
-pub enum Number {
-    Is(u32),
-    Not,
-}
+use isa::syllable::ends;
 
 #[derive(Clone, Copy)]
 pub enum Item {
-    Bad,
     // a blank follows
     Inner(u32),
     // a newline follows
     Last(u32),
 }
 
-fn is_digit(b: u8) -> bool
-    ensures { result ≡ is_digit b }
+// Upper case alone.
+fn digit_of(b: u8) -> Option<u32>
+    ensures is { result ≡ pick (is_digit b) (Some (digit_of b)) None }
+    ensures below { IfSome result (λ d. d < 16) }
 {
-    ((48 <= b) & (b <= 57)) | ((65 <= b) & (b <= 70))
-}
-
-fn digit_of(b: u8) -> u32
-    requires { is_digit b ≡ true }
-    ensures { (result ≡ digit_of b) × (result < 16) }
-{
-    if b < 58 { b as u32 - 48 } else { b as u32 - 55 }
+    match b {
+        b'0'..=b'9' => Some((b - b'0') as u32),
+        b'A'..=b'F' => Some((b - b'A') as u32 + 10),
+        _ => None,
+    }
 }
 
 // The number of at most eight digits.
-fn number_of(item: &[u8]) -> Number
-    requires { length item.now ≤ 8 }
-    ensures { result ≡ number_in item.now }
+fn number_of(digits: &[u8]) -> Option<u32>
+    requires { length digits.now ≤ 8 }
+    ensures { result ≡ number_in digits.now }
 {
     let mut v = 0;
-    for i in 0..item.len() {
-        if !is_digit(item[i]) {
-            return Number::Not;
-        }
-        v = v * 16 + digit_of(item[i]);
+    for &b in digits {
+        v = v * 16 + digit_of(b)?;
     }
-    Number::Is(v)
+    Some(v)
 }
 
 // By the byte after it.
-fn followed_by(b: u8, v: u32) -> Item
+fn followed_by(b: u8, v: u32) -> Option<Item>
     ensures { result ≡ followed b v }
 {
-    if b == b' ' {
-        return Item::Inner(v);
-    }
-    if b == b'\n' {
-        return Item::Last(v);
-    }
-    Item::Bad
-}
-
-// The item at `at`.
-pub fn item_at(text: &[u8], at: usize, digits: usize) -> Item
-    requires digits_bound { digits ≤ 8 }
-    requires at_in_bounds { at ≤ length text.now }
-    ensures { result ≡ item_at digits (drop at text.now) }
-{
-    if text.len() - at <= digits {
-        return Item::Bad;
-    }
-    let end = at + digits;
-    match number_of(&text[at..end]) {
-        Number::Is(v) => followed_by(text[end], v),
-        Number::Not => Item::Bad,
+    match b {
+        b' ' => Some(Item::Inner(v)),
+        b'\n' => Some(Item::Last(v)),
+        _ => None,
     }
 }
 
-// "Bit 31 set on its last syllable only": a syllable with a blank after it, and so many bytes of the text from it on.
-fn inner(w: u32, left: usize) -> Item
-    ensures { result ≡ pick (ends w || eqb left 9) Bad (Inner w) }
+// The item of so many digits, and the text behind it.
+#[tactic(auto, using(crate::proofs::Finding::item_steps))]
+pub fn item_at(text: &[u8], digits: usize) -> Option<(Item, &[u8])>
+    requires { digits ≤ 8 }
+    ensures is { let item = item_at digits text.now in MatchOption result (item ≡ None) (λ p. item ≡ Some p.0) }
+    ensures below { IfSome result (λ p. value_of p.0 < 16 ^ digits) }
+    ensures behind { IfSome result (λ p. (p.1.now ≡ drop (digits + 1) text.now) × (digits < length text.now)) }
 {
-    if syllable::ends(w) {
-        return Item::Bad;
-    }
-    if left == 9 {
-        return Item::Bad;
-    }
-    Item::Inner(w)
+    let (number, behind) = text.split_at_checked(digits)?;
+    let [b, rest @ ..] = behind else {
+        return None;
+    };
+    let v = number_of(number)?;
+    let item = followed_by(*b, v)?;
+    Some((item, rest))
 }
 
-// A syllable with a newline after it.
-fn last(w: u32) -> Item
-    ensures { result ≡ pick (ends w) (Last w) Bad }
+// The syllable, and the text behind it: bit 31 before a newline only, and more of the text after a blank.
+#[tactic(auto, unfolding(crate::specs::Items::syllable_at))]
+pub fn syllable_at(text: &[u8]) -> Option<(Item, &[u8])>
+    ensures is { let item = syllable_at text.now in MatchOption result (item ≡ None) (λ p. item ≡ Some p.0) }
+    ensures behind { IfSome result (λ p. (p.1.now ≡ drop 9 text.now) × (8 < length text.now)) }
 {
-    if syllable::ends(w) {
-        return Item::Last(w);
-    }
-    Item::Bad
-}
-
-// The syllable at `at`.
-pub fn syllable_at(text: &[u8], at: usize) -> Item
-    requires { at ≤ length text.now }
-    ensures { result ≡ syllable_at (drop at text.now) }
-{
-    match item_at(text, at, 8) {
-        Item::Bad => Item::Bad,
-        Item::Inner(w) => inner(w, text.len() - at),
-        Item::Last(w) => last(w),
+    match item_at(text, 8)? {
+        (Item::Inner(w), rest) if ends(w) || rest.is_empty() => None,
+        (Item::Last(w), _) if !ends(w) => None,
+        found => Some(found),
     }
 }

@@ -1,158 +1,113 @@
 // The lines of a text, read in their order up to the first that is bad.
-ghost use Rattle.std.specs.Prelude.{◌≡◌, List, ℕ, ◌+◌, ◌*◌, ◌≤◌, length, take, drop};
-ghost use Rattle.lines.specs.Lines.{newline, pieces, first_line, program_from, from_program, from_third, from_second, from_first};
-ghost use Rattle.lines.specs.Items.{syllable_at, put_item, line_after, line_held, Within, program_held, held, Counted, Kept};
+ghost use Rattle.std.specs.Prelude.{◌≡◌, [], ◌∷◌, ◌+◌, ◌≤◌, ◌++◌, length, IfSome, MatchOption};
+ghost use Rattle.word.specs.Bytes.{bytes};
+ghost use Rattle.arrayvec.specs.ArrayVec.{array_vec_len};
+ghost use Rattle.lines.specs.Lines.{newline, pieces, Broken, Holds, first_line, program_from, from_first};
+ghost use Rattle.lines.specs.Items.{program_held, reading_of, single};
 
 use crate::items::{Item, item_at, syllable_at};
-use word::number::put_word;
+use arrayvec::ArrayVec;
 
-// How much of a table and of a program was read: bytes, and syllables.
+// The lowest line that is bad or missing.
 #[derive(Clone, Copy)]
-pub struct Sizes {
-    pub table: usize,
+pub struct BadLine(pub usize);
+
+// What a text says. So many bytes and syllables stand in 32,768 bytes at most.
+#[derive(Drop)]
+pub struct Text {
+    pub table: ArrayVec<u8, 10923>,
     pub memory: u32,
     pub n: u32,
-    pub program: usize,
+    pub program: ArrayVec<u8, 16384>,
 }
 
-// How far reading came: so many bytes or lines, or nothing where an item is bad.
-#[derive(Clone, Copy)]
-pub enum Upto {
-    At(usize),
-    Nothing,
-}
-
-// What reading finds: the lowest line that is bad or missing, or a text.
-#[derive(Clone, Copy)]
-pub enum Reading {
-    Line(usize),
-    Text(Sizes),
-}
-
-#[derive(Clone, Copy)]
-pub enum Syllables {
-    Unread(usize),
-    Count(usize),
-}
-
-// Line 1, its bytes put into `table`: how many there are.
-fn first_line(text: &[u8], table: &mut [u8]) -> Upto
-    requires { (length text.now ≤ 32768) × (length table.old ≡ 10923) }
-    ensures text_after { line_held result table.new text.now ≡ first_line 2 (pieces newline text.now) }
-    ensures within { Within result text.now }
+// Line 1, its bytes put into `table`: what stands behind it.
+#[tactic(auto, using(crate::proofs::Tables::table_steps))]
+fn first_line<'a>(text: &'a [u8], table: &mut ArrayVec<u8, 10923>) -> Option<&'a [u8]>
+    requires empty { table.old.items ≡ [] }
+    requires fits { length text.now ≤ 32768 }
+    ensures is { let line = first_line 2 (pieces newline text.now) in
+        MatchOption result (line ≡ Broken) (λ rest. line ≡ Holds table.new.items (pieces newline rest.now)) }
+    ensures shorter { IfSome result (λ rest. length rest.now ≤ length text.now) }
 {
-    let mut n = 0;
-    while n * 3 < text.len() {
-        match item_at(text, n * 3, 2) {
-            Item::Bad => {
-                return Upto::Nothing;
-            }
-            Item::Inner(b) => {
-                table[n] = b as u8;
-                n += 1;
-            }
+    let mut rest = text;
+    while let Some((item, behind)) = item_at(rest, 2) {
+        rest = behind;
+        match item {
+            Item::Inner(b) => table.push(b as u8),
             Item::Last(b) => {
-                table[n] = b as u8;
-                return Upto::At(n + 1);
+                table.push(b as u8);
+                return Some(rest);
             }
         }
     }
-    Upto::Nothing
+    None
 }
 
-// The syllable at `at`, of line `line`, put into `program` as its n-th: the line after it.
-fn put_syllable(text: &[u8], at: usize, program: &mut [u8], n: usize, line: usize) -> Upto
-    requires { (at ≤ length text.now) × (n * 4 + 4 ≤ length program.old) × (line ≤ 32768) }
-    ensures { (result ≡ line_after line (syllable_at (drop at text.now)))
-        × (program.new ≡ put_item n (syllable_at (drop at text.now)) program.old) }
+// A line of one number: the number, and what stands behind the line.
+#[tactic(auto, using(crate::proofs::Heads::single_steps))]
+fn number_line(text: &[u8]) -> Option<(u32, &[u8])>
+    ensures is { let line = single (first_line 8 (pieces newline text.now)) in
+        MatchOption result (line ≡ Broken) (λ p. line ≡ Holds (p.0 ∷ []) (pieces newline p.1.now)) }
+    ensures shorter { IfSome result (λ p. length p.1.now ≤ length text.now) }
 {
-    match syllable_at(text, at) {
-        Item::Bad => Upto::Nothing,
-        Item::Inner(w) => {
-            put_word(program, n * 4, w);
-            Upto::At(line)
-        }
-        Item::Last(w) => {
-            put_word(program, n * 4, w);
-            Upto::At(line + 1)
-        }
+    match item_at(text, 8)? {
+        (Item::Last(v), rest) => Some((v, rest)),
+        (Item::Inner(_), _) => None,
     }
 }
 
-// The lines from line 4 on, which starts at `from`: their syllables put into `program`.
-fn instructions(text: &[u8], from: usize, program: &mut [u8]) -> Syllables
-    requires { (from ≤ length text.now) × (length text.now ≤ 32768) × (length program.old ≡ 16384) }
-    ensures program_after { program_held result program.new ≡ program_from 4 (pieces newline (drop from text.now)) }
-    ensures counted { Counted result }
+fn push_word(program: &mut ArrayVec<u8, 16384>, w: u32)
+    requires { array_vec_len program.old + 4 ≤ 16384 }
+    ensures is { program.new.items ≡ program.old.items ++ bytes 4 w }
+    ensures len { array_vec_len program.new ≡ array_vec_len program.old + 4 }
 {
-    let mut line = 4;
-    let mut n = 0;
-    while from + n * 9 < text.len() {
-        match put_syllable(text, from + n * 9, program, n, line) {
-            Upto::Nothing => {
-                return Syllables::Unread(line);
+    for b in w.to_be_bytes() {
+        program.push(b);
+    }
+}
+
+// The lines from line 4 on, their syllables put into `program`.
+#[tactic(auto, using(crate::proofs::Programs::program_steps))]
+fn instructions(text: &[u8], program: &mut ArrayVec<u8, 16384>) -> Result<(), BadLine>
+    requires empty { program.old.items ≡ [] }
+    requires fits { length text.now ≤ 32768 }
+    ensures { program_held result program.new.items ≡ program_from 4 (pieces newline text.now) }
+{
+    let mut line = 4usize;
+    let mut rest = text;
+    while !rest.is_empty() {
+        let Some((item, behind)) = syllable_at(rest) else {
+            return Err(BadLine(line));
+        };
+        rest = behind;
+        match item {
+            Item::Inner(w) => push_word(program, w),
+            Item::Last(w) => {
+                push_word(program, w);
+                line += 1;
             }
-            Upto::At(next) => {
-                line = next;
-                n += 1;
-            }
         }
     }
-    Syllables::Count(n)
+    Ok(())
 }
 
-// The lines from line 4 on, after a table of so many bytes.
-fn from_fourth(text: &[u8], table: usize, memory: u32, n: u32, program: &mut [u8]) -> Reading
-    requires { (table * 3 + 18 ≤ length text.now) × (length text.now ≤ 32768) × (length program.old ≡ 16384) }
-    ensures by_index { (bytes : List ℕ) → held result bytes program.new
-        ≡ from_program (take table bytes) memory n (program_from 4 (pieces newline (drop (table * 3 + 18) text.now))) }
-    ensures kept { Kept result }
+// All lines of a text.
+#[tactic(auto, using(crate::proofs::Heads::second_single, crate::proofs::Heads::third_single))]
+pub fn read(text: &[u8]) -> Result<Text, BadLine>
+    requires { length text.now ≤ 32768 }
+    ensures { result ≡ reading_of (from_first (first_line 2 (pieces newline text.now))) }
 {
-    match instructions(text, table * 3 + 18, program) {
-        Syllables::Unread(line) => Reading::Line(line),
-        Syllables::Count(k) => Reading::Text(Sizes {
-            table,
-            memory,
-            n,
-            program: k,
-        }),
-    }
-}
-
-fn from_third(text: &[u8], table: usize, memory: u32, program: &mut [u8]) -> Reading
-    requires { (table * 3 + 9 ≤ length text.now) × (length text.now ≤ 32768) × (length program.old ≡ 16384) }
-    ensures by_index { (bytes : List ℕ) → held result bytes program.new
-        ≡ from_third (take table bytes) memory (first_line 8 (pieces newline (drop (table * 3 + 9) text.now))) }
-    ensures kept { Kept result }
-{
-    match item_at(text, table * 3 + 9, 8) {
-        Item::Bad => Reading::Line(3),
-        Item::Inner(_) => Reading::Line(3),
-        Item::Last(n) => from_fourth(text, table, memory, n, program),
-    }
-}
-
-fn from_second(text: &[u8], table: usize, program: &mut [u8]) -> Reading
-    requires { (table * 3 ≤ length text.now) × (length text.now ≤ 32768) × (length program.old ≡ 16384) }
-    ensures by_index { (bytes : List ℕ) → held result bytes program.new
-        ≡ from_second (take table bytes) (first_line 8 (pieces newline (drop (table * 3) text.now))) }
-    ensures kept { Kept result }
-{
-    match item_at(text, table * 3, 8) {
-        Item::Bad => Reading::Line(2),
-        Item::Inner(_) => Reading::Line(2),
-        Item::Last(memory) => from_third(text, table, memory, program),
-    }
-}
-
-// All lines of a text, its bytes and syllables put into `table` and `program`.
-pub fn read(text: &[u8], table: &mut [u8], program: &mut [u8]) -> Reading
-    requires { (length text.now ≤ 32768) × (length table.old ≡ 10923) × (length program.old ≡ 16384) }
-    ensures program_after { held result table.new program.new ≡ from_first (first_line 2 (pieces newline text.now)) }
-    ensures kept { Kept result }
-{
-    match first_line(text, table) {
-        Upto::Nothing => Reading::Line(1),
-        Upto::At(n) => from_second(text, n, program),
-    }
+    let mut table = ArrayVec::new();
+    let rest = first_line(text, &mut table).ok_or(BadLine(1))?;
+    let (memory, rest) = number_line(rest).ok_or(BadLine(2))?;
+    let (n, rest) = number_line(rest).ok_or(BadLine(3))?;
+    let mut program = ArrayVec::new();
+    instructions(rest, &mut program)?;
+    Ok(Text {
+        table,
+        memory,
+        n,
+        program,
+    })
 }

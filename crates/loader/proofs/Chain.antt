@@ -8,6 +8,7 @@ use native.Mathlib.Omega.{arith}
 use lib.Dec.{eqb, ltb, leb}
 use lib.ListN.{length}
 use borrow.Author.Tests.{ltb-false, eqb-true, eqb-false, not-false}
+use Rattle.std.specs.Prelude.{Option, None}
 use Rattle.word.specs.Bytes.{words}
 use Rattle.word.specs.Lists.{NoneBelow}
 use Rattle.word.proofs.Bytes.{words_length}
@@ -16,20 +17,19 @@ use Rattle.isa.specs.Syllable.{opcode, opens, source, is_copy}
 use Rattle.isa.specs.Control.{is_control}
 use Rattle.isa.specs.Lowest.{lowest}
 use Rattle.isa.specs.Program.{spot_at, cluster}
-use Rattle.isa.specs.declared.Found.{Found}
-use Rattle.isa.specs.declared.Found.TheVariants.{Nothing}
+use Rattle.isa.specs.declared.Place.{Place}
 use Rattle.isa.proofs.Lowest.{lowest_is}
 use Rattle.refusals.specs.Broken.{bad_program_length, bad_cluster_at}
 
 -- a test that found no place passes everywhere
-none_found : (f : ℕ → Bool) (n : ℕ) → lowest f n ≡ Nothing → NoneBelow f n
+none_found : (f : ℕ → Bool) (n : ℕ) → lowest f n ≡ None → NoneBelow f n
 none_found f n e = rw e at (lowest_is f n)
 
 second : (a b c d : Bool) → a || b || c || d ≡ false → b ≡ false
 second a b c d e = (or_false a b (or_false (a || b) c (or_false (a || b || c) d e).0).0).1
 
 -- where 5 passes no instruction opens more than four clusters
-pub few_opened : (C : ℕ) (p : List ℕ) {f : Found} → f ≡ lowest (bad_cluster_at C p) (length p) → f ≡ Nothing → C ≤ 4
+pub few_opened : (C : ℕ) (p : List ℕ) {f : Option Place} → f ≡ lowest (bad_cluster_at C p) (length p) → f ≡ None → C ≤ 4
     → (j : ℕ) → j < length p → (spot_at p j).opened ≤ 4
 unfolding bad_cluster_at
 few_opened C p is e few j h =

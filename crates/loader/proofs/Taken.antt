@@ -9,6 +9,7 @@ use native.Mathlib.Omega.{arith}
 use lib.Dec.{eqb, ltb}
 use lib.ListN.{length, get_or}
 use borrow.Author.Tests.{ltb-false, not-false}
+use Rattle.std.specs.Prelude.{Option, Some}
 use Rattle.word.specs.Lists.{any, any_below, count, repeats}
 use Rattle.word.proofs.Choice.{by_test, never_both, or_false}
 use Rattle.word.proofs.Lists.{index_of, any_below_false, repeats_false}
@@ -18,8 +19,6 @@ use Rattle.isa.specs.Program.{nowhere, spot_at, cluster, is_start, instruction_a
 use Rattle.isa.specs.Touch.{destinations, nexts}
 use Rattle.isa.specs.declared.Spot.{Spot}
 use Rattle.isa.specs.declared.Place.{Place}
-use Rattle.isa.specs.declared.Found.{Found}
-use Rattle.isa.specs.declared.Found.TheVariants.{At}
 use Rattle.isa.specs.declared.Table.{Table}
 use Rattle.isa.proofs.Instructions.{spot_syllable, spot_last, start_inside, start_zero, opened_first, opened_next, following_within, next_start, instruction_at_lem}
 use Rattle.refusals.specs.Broken.{bad_cluster_at, overfull, too_wide_at, two_writes_at, misses, leaving, bad_control_at}
@@ -37,7 +36,7 @@ kept : (a b : Bool) → a && not b ≡ false → a ≡ true → b ≡ true
 kept a b e h = not-false b (past a (not b) e h)
 
 -- a target that no test misses is a start
-aims : (starts : ℕ → Bool) (f : Found) → misses starts f ≡ false → {t : Place} → f ≡ At t → starts t.0 ≡ true
+aims : (starts : ℕ → Bool) (f : Option Place) → misses starts f ≡ false → {t : Place} → f ≡ Some t → starts t.0 ≡ true
 aims starts f h e = not-false _ (rw e at h)
 
 -- what each syllable has, each of an instruction has
@@ -51,7 +50,7 @@ each_of p i b P h x m =
 pub record Placed (table : Table) (p : List ℕ) (j : ℕ) : Type 0 where
   pub first_opens : is_start p j ≡ true → opens (get_or p j 0) ≡ true
   pub opened_most : (spot_at p j).opened ≤ table.clusters
-  pub target_starts : {t : Place} → target_of (way_of (get_or p j 0)) ≡ At t → is_start p t.0 ≡ true
+  pub target_starts : {t : Place} → target_of (way_of (get_or p j 0)) ≡ Some t → is_start p t.0 ≡ true
   pub lone : solitary (way_of (get_or p j 0)) ≡ true → is_start p j && ends (get_or p j 0) ≡ true
   pub last_leaves : is_start p j ≡ true → following p j ≡ length p → any leaving (instruction_at p j) ≡ true
 
@@ -127,7 +126,7 @@ module _ {table : Table} {p : List ℕ} (ok : Passed table p) where
       where
         by : Next (following p i) (instruction_at p i) t → is_start p t ≡ true
         by (aimed {x = x} m e) =
-            each_of p i inside (λ y. target_of (way_of y.syllable) ≡ At (place t) → is_start p t ≡ true) (λ k h. rw (spot_syllable p k) (placed k h).target_starts) x m e
+            each_of p i inside (λ y. target_of (way_of y.syllable) ≡ Some (place t) → is_start p t ≡ true) (λ k h. rw (spot_syllable p k) (placed k h).target_starts) x m e
         by (follows e l) =
             ⊎_elim
             (λ q. absurd (never_both ((placed i inside).last_leaves s q) l))

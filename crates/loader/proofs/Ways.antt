@@ -5,6 +5,7 @@ use mathlib.Core.List.Memᴰ
 use mathlib.Core.List.{List, [], ◌∷◌, map, Memᴰ}
 use Prim.Native.Nat.{ℕ, ◌≤◌}
 use native.Mathlib.Omega.{arith}
+use Rattle.std.specs.Prelude.{Some}
 use Rattle.word.specs.Lists.{any, count}
 use Rattle.word.proofs.Choice.{is_false}
 use Rattle.word.proofs.Lists.{any_true_in}
@@ -14,7 +15,6 @@ use Rattle.isa.specs.Touch.{nexts_by, nexts}
 use Rattle.isa.specs.declared.Spot.{Spot}
 use Rattle.isa.specs.declared.Way.{Way}
 use Rattle.isa.specs.declared.Way.TheVariants.{Along, Stop, Goto, Branch, Call, Return}
-use Rattle.isa.specs.declared.Found.TheVariants.{At}
 use Rattle.isa.proofs.Decoded.{decode_way}
 use Rattle.refusals.specs.Broken.{leaving}
 use Rattle.loader.proofs.Counts.{count_some}
@@ -44,7 +44,7 @@ one_stays {x} (Memᴰ.tail {x = y} {xs = xs} m) few c l =
 
 -- a next place is a target, or the following place where nothing leaves for good
 pub data Next (f : ℕ) (xs : List Spot) (t : ℕ) : Type 0 where
-  aimed : {x : Spot} → Memᴰ x xs → target_of (way_of x.syllable) ≡ At (place t) → Next f xs t
+  aimed : {x : Spot} → Memᴰ x xs → target_of (way_of x.syllable) ≡ Some (place t) → Next f xs t
   follows : t ≡ f → any leaving xs ≡ false → Next f xs t
 
 later : {f t : ℕ} {x : Spot} {xs : List Spot} → leaving x ≡ false → Next f xs t → Next f (x ∷ xs) t
@@ -59,8 +59,8 @@ next_is f (x ∷ xs) {t} few m =
     s : ℕ
     s = x.syllable
 
-    here : {w : Way} (g : ℕ) → way_of s ≡ w → target_of w ≡ At (place g) → t ≡ g → Next f (x ∷ xs) t
-    here g e h q = aimed (Memᴰ.head refl) (ap target_of e ∙ h ∙ ap (λ n. At (place n)) (sym q))
+    here : {w : Way} (g : ℕ) → way_of s ≡ w → target_of w ≡ Some (place g) → t ≡ g → Next f (x ∷ xs) t
+    here g e h q = aimed (Memᴰ.head refl) (ap target_of e ∙ h ∙ ap (λ n. Some (place n)) (sym q))
 
     by : (w : Way) → way_of s ≡ w → Memᴰ t (nexts_by w f (nexts f (map operation xs))) → (Memᴰ t (nexts f (map operation xs)) → Next f xs t) → Next f (x ∷ xs) t
     by Along e m more = later (ap leaves e) (more m)

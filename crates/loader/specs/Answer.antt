@@ -1,13 +1,11 @@
 -- The paper's number, count and place of each refusal, and what they leave in the answer room.
-use Rattle.std.specs.Prelude.{List, ◌++◌, ℕ, eqb, length}
+use Rattle.std.specs.Prelude.{List, ◌++◌, ℕ, eqb, length, Ok, Err}
 use Rattle.word.specs.Choice.{pick}
 use Rattle.word.specs.Bytes.{bytes}
-use Rattle.loader.specs.Load.{loaded_of}
+use Rattle.loader.specs.Load.{Loaded, loaded_of}
 use Rattle.loader.specs.declared.Answer.{Answer}
 use Rattle.loader.specs.declared.Refusal.{Refusal}
 use Rattle.loader.specs.declared.Refusal.TheVariants.{BadTable, ProgramLength, MemoryLength, StateLength, RoomLength, NoEnd, BadBits, BadCluster, TooWide, TwoWrites, BadControl}
-use Rattle.loader.specs.declared.Loaded.{Loaded}
-use Rattle.loader.specs.declared.Loaded.TheVariants.{Good, Refused}
 
 abbrev pub answer : ℕ → ℕ → ℕ → Answer
 answer number count place = record { number = number; count = count; place = place }
@@ -26,8 +24,8 @@ refusal_answer (TwoWrites i) = answer 7 0 i.0
 refusal_answer (BadControl i) = answer 8 0 i.0
 
 abbrev pub load_answer : Loaded → Answer
-load_answer Good = answer 0 0 0
-load_answer (Refused r) = refusal_answer r
+load_answer (Ok tt) = answer 0 0 0
+load_answer (Err r) = refusal_answer r
 
 -- "The answer room gets number, count, place, 4 bytes each"; "A room not of 12 bytes is never written, under any number."
 unfoldable pub room_with : Answer → List ℕ → List ℕ

@@ -1,31 +1,30 @@
 -- Loading: "Each number is tested over the whole input before the next, in this order, lowest place first."
-use Rattle.std.specs.Prelude.{Bool, List, ℕ, length}
+use Rattle.std.specs.Prelude.{Bool, List, ℕ, length, Option, Some, None, Result, Ok, Err}
 use Rattle.word.specs.Choice.{pick}
 use Rattle.isa.specs.Lowest.{lowest}
 use Rattle.word.specs.Bytes.{words}
-use Rattle.isa.specs.declared.Found.{Found}
-use Rattle.isa.specs.declared.Found.TheVariants.{At, Nothing}
 use Rattle.isa.specs.declared.Place.{Place}
 use Rattle.isa.specs.declared.Table.{Table}
 use Rattle.tables.specs.Table.{bad_table, table_of}
 use Rattle.refusals.specs.Broken.{bad_program_length, bad_room_length, no_end_at, bad_bits_at, bad_cluster_at, too_wide_at, two_writes_at, bad_control_at}
 use Rattle.loader.specs.declared.Refusal.{Refusal}
 use Rattle.loader.specs.declared.Refusal.TheVariants.{BadTable, ProgramLength, RoomLength, NoEnd, BadBits, BadCluster, TooWide, TwoWrites, BadControl}
-use Rattle.loader.specs.declared.Loaded.{Loaded}
-use Rattle.loader.specs.declared.Loaded.TheVariants.{Good, Refused}
+
+abbrev pub Loaded : Type 0
+Loaded = Result (Unit {0}) Refusal
 
 infixr 20 ◌otherwise◌
 -- the first refusal
 abbrev pub ◌otherwise◌ : Loaded → Loaded → Loaded
-◌otherwise◌ Good b = b
-◌otherwise◌ (Refused r) b = Refused r
+◌otherwise◌ (Ok tt) b = b
+◌otherwise◌ (Err r) b = Err r
 
 abbrev pub refused_if : Bool → Refusal → Loaded
-refused_if broken r = pick broken (Refused r) Good
+refused_if broken r = pick broken (Err r) (Ok tt)
 
-abbrev pub refused_at : (Place → Refusal) → Found → Loaded
-refused_at r (At i) = Refused (r i)
-refused_at r Nothing = Good
+abbrev pub refused_at : (Place → Refusal) → Option Place → Loaded
+refused_at r (Some i) = Err (r i)
+refused_at r None = Ok tt
 
 -- 3 to 8, of the syllables
 unfoldable pub tested_by : Table → List ℕ → Loaded

@@ -2,7 +2,7 @@
 ghost use Rattle.std.specs.Prelude.{◌≡◌};
 ghost use Rattle.loader.specs.Answer.{answer, refusal_answer, load_answer, room_with};
 
-use crate::{Answer, Loaded, Refusal};
+use crate::{Answer, Refusal};
 use isa::Place;
 use word::number::put_word;
 
@@ -17,34 +17,38 @@ fn refused(number: u32, at: Place) -> Answer
     }
 }
 
-pub fn of_refusal(r: Refusal) -> Answer
-    ensures { result ≡ refusal_answer r }
-{
-    match r {
-        Refusal::BadTable => refused(1, Place(0)),
-        Refusal::ProgramLength => refused(2, Place(0)),
-        Refusal::MemoryLength => refused(2, Place(1)),
-        Refusal::StateLength => refused(2, Place(2)),
-        Refusal::RoomLength => refused(2, Place(3)),
-        Refusal::NoEnd(i) => refused(3, i),
-        Refusal::BadBits(i) => refused(4, i),
-        Refusal::BadCluster(i) => refused(5, i),
-        Refusal::TooWide(i) => refused(6, i),
-        Refusal::TwoWrites(i) => refused(7, i),
-        Refusal::BadControl(i) => refused(8, i),
+impl From<Refusal> for Answer {
+    ghost from_gives = { λ r a. a ≡ refusal_answer r };
+
+    fn from(r: Refusal) -> Answer {
+        match r {
+            Refusal::BadTable => refused(1, Place(0)),
+            Refusal::ProgramLength => refused(2, Place(0)),
+            Refusal::MemoryLength => refused(2, Place(1)),
+            Refusal::StateLength => refused(2, Place(2)),
+            Refusal::RoomLength => refused(2, Place(3)),
+            Refusal::NoEnd(i) => refused(3, i),
+            Refusal::BadBits(i) => refused(4, i),
+            Refusal::BadCluster(i) => refused(5, i),
+            Refusal::TooWide(i) => refused(6, i),
+            Refusal::TwoWrites(i) => refused(7, i),
+            Refusal::BadControl(i) => refused(8, i),
+        }
     }
 }
 
-pub fn of_load(l: Loaded) -> Answer
-    ensures { result ≡ load_answer l }
-{
-    match l {
-        Loaded::Good => Answer {
-            number: 0,
-            count: 0,
-            place: 0,
-        },
-        Loaded::Refused(r) => of_refusal(r),
+impl From<Result<(), Refusal>> for Answer {
+    ghost from_gives = { λ l a. a ≡ load_answer l };
+
+    fn from(loaded: Result<(), Refusal>) -> Answer {
+        match loaded {
+            Ok(()) => Answer {
+                number: 0,
+                count: 0,
+                place: 0,
+            },
+            Err(r) => r.into(),
+        }
     }
 }
 

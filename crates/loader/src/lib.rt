@@ -23,12 +23,6 @@ pub enum Refusal {
     BadControl(Place),
 }
 
-#[derive(Clone, Copy)]
-pub enum Loaded {
-    Good,
-    Refused(Refusal),
-}
-
 // What a call answers: the paper's number, the executed count and a place.
 #[derive(Clone, Copy)]
 pub struct Answer {

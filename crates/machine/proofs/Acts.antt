@@ -28,7 +28,8 @@ use Rattle.isa.specs.declared.Turn.{Turn}
 use Rattle.isa.specs.declared.Op.{Op}
 use Rattle.isa.specs.declared.Place.{Place}
 use Rattle.isa.proofs.Steps.{either_way}
-use Rattle.memory.specs.Memory.{Store, store, share, any_share}
+use Rattle.memory.specs.Memory.{store, share, any_share}
+use Rattle.memory.specs.declared.Store.{Store}
 use Rattle.machine.specs.Link.{Memory, Change, memory_of, storing, linking, change}
 use Rattle.machine.specs.Instruction.{Fired, fire, result_values, stores_of, Next, calls, back, stops, next_by, next_of, faulted, goes_on, out_by, acts}
 use Rattle.machine.specs.Instruction.{at as goes_to}

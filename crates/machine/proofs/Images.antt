@@ -3,12 +3,13 @@ use mathlib.Core.Path.{◌≡◌, refl, sym, ap, ◌∙◌}
 use mathlib.Core.List.{List, [], ◌∷◌, ◌++◌}
 use Prim.Native.Nat.{ℕ, zero, suc, ◌+◌, ◌*◌, ◌/◌, ◌^◌, ◌≤◌, ◌<◌}
 use native.Mathlib.Nat.{add-zero, zero-add, add-suc, suc-add, mod-lt, mod-eq_of_lt, zero-lt-suc, not-suc-le-zero, le_of_suc-le-suc}
+use native.Mathlib.Numerals.{add-one}
 use native.Mathlib.Omega.{arith}
-use lib.ListN.{length, get_or, set, take, drop, length-append, length-drop, take-append-drop}
-use lib.Seq.{sets, length-take-le, drop-cons, drop-drop, drop-length, get_or-drop}
-use Rattle.word.specs.Bytes.{AreBytes, number, bytes, word_at}
-use Rattle.word.proofs.Bytes.{bytes_number, number_bytes, number_at_lt, are_bytes_take, are_bytes_drop}
-use Rattle.vliw.specs.Cell.{Cell, Registers, at}
+use lib.ListN.{length, get_or, take, drop, length-append, length-drop, take-append-drop}
+use lib.Seq.{sets, take-suc, take_all, length-take-le, drop-cons, drop-drop, drop-length, get_or-drop}
+use Rattle.word.specs.Bytes.{AreBytes, number, bytes, word_at, put_word}
+use Rattle.word.proofs.Bytes.{sets_append, sets_all, bytes_number, number_bytes, number_at_lt, are_bytes_take, are_bytes_drop}
+use Rattle.vliw.specs.Cell.{Cell, Registers, still, at}
 use Rattle.machine.specs.Image.{image_offset, place_in, link_in, cell_in, cells_from, registers_in, cell_bytes, register_bytes, image_of}
 
 -- ---- the registers of an image
@@ -22,10 +23,6 @@ module _ (image : List ℕ) where
   cells_from_at r zero i h = absurd (not-suc-le-zero h)
   cells_from_at r (suc n) zero h = rw add-zero
   cells_from_at r (suc n) (suc i) h = rw (add-suc r i, ← suc-add r i) (cells_from_at (suc r) n i (le_of_suc-le-suc h))
-
-  pub cells_from_add : (r m n : ℕ) → cells_from image r (m + n) ≡ cells_from image r m ++ cells_from image (r + m) n
-  cells_from_add r zero n = rw (zero-add, add-zero)
-  cells_from_add r (suc m) n = rw (suc-add m n, add-suc r m, ← suc-add r m, cells_from_add (suc r) m n)
 
   pub registers_length : length (registers_in image) ≡ 288
   unfolding registers_in
@@ -45,10 +42,30 @@ pub register_bytes_append : (l m : Registers) → register_bytes (l ++ m) ≡ re
 register_bytes_append [] m = refl
 register_bytes_append (c ∷ l) m = rw (register_bytes_append l m)
 
--- a run of stores, and one after it
-pub sets_append : (l : List ℕ) (i : ℕ) (xs ys : List ℕ) {j : ℕ} → i + length xs ≡ j → sets (sets l i xs) j ys ≡ sets l i (xs ++ ys)
-sets_append l i [] ys e = rw (← e, add-zero)
-sets_append l i (x ∷ xs) ys e = sets_append (set l i x) (suc i) xs ys (omega arith)
+-- ---- an image that is filled register by register, from the place on
+
+-- the next is put after the first r
+pub put_next : (l : Registers) (start : List ℕ) (r : ℕ) {image after : List ℕ} {c : Cell} → r < length l
+    → image ≡ sets start (image_offset 0) (register_bytes (take r l)) → c ≡ at l r → after ≡ sets image (image_offset r) (cell_bytes c)
+    → after ≡ sets start (image_offset 0) (register_bytes (take (r + 1) l))
+put_next l start r h e is put =
+    rw (put, is, e, add-one r, take-suc l r still h, register_bytes_append)
+    (sets_append start (image_offset 0) (register_bytes (take r l)) (cell_bytes (at l r)) (omega (arith, register_bytes_length (take r l), length-take-le r l (omega arith))))
+
+-- all are put, and the link
+pub put_all : (l : Registers) (start : List ℕ) (r place link : ℕ) {image after : List ℕ} → length l ≡ 288 → r ≡ 288 → length start ≡ 2888
+    → image ≡ sets (put_word 0 place start) (image_offset 0) (register_bytes (take r l)) → after ≡ put_word (image_offset 288) link image
+    → after ≡ image_of place l link
+unfolding image_of
+put_all l start r place link n d e is put =
+    let b : List ℕ = register_bytes l in
+    let w : List ℕ = bytes 4 place ++ b in
+    let k : List ℕ = bytes 4 link in
+    let m : length w ≡ 2884 = omega (arith, register_bytes_length l) in
+    rw (put, is, take_all r l (omega arith))
+    (ap (λ (x : List ℕ). sets x 2884 k) (sets_append start 0 (bytes 4 place) b refl)
+    ∙ sets_append start 0 w k (omega arith)
+    ∙ sets_all start (w ++ k) (omega (arith, length-append w k)))
 
 pub image_of_length : (place : ℕ) (l : Registers) (link : ℕ) → length l ≡ 288 → length (image_of place l link) ≡ 2888
 unfolding image_of

@@ -10,9 +10,8 @@ use Rattle.isa.specs.Touch.{results, dests}
 use Rattle.isa.specs.declared.Op.{Op}
 use Rattle.isa.specs.declared.Delays.{Delays}
 use Rattle.memory.specs.Memory.{size_of, fault_in, ◌or_else◌}
-use Rattle.memory.specs.declared.Access.{Access}
-use Rattle.memory.specs.declared.FirstFault.{FirstFault}
-use Rattle.memory.specs.declared.FirstFault.TheVariants.{None, First}
+use Rattle.std.specs.Prelude.{Option, None, Some, Result}
+use Rattle.vliw.specs.declared.Fault.{Fault}
 use Rattle.memory.proofs.Accesses.{Goes, inside, misaligned, outside, goes}
 use Rattle.machine.specs.Instruction.{Fired, address_of, result_values, stores_of, access_fault, fault_of}
 
@@ -39,28 +38,28 @@ dests_append d os ps = rw (results_append os ps) (map-append _ (results os) (res
 
 -- ---- faults
 
-or_else_assoc : (a b c : FirstFault) → (a or_else b) or_else c ≡ a or_else (b or_else c)
+or_else_assoc : (a b c : Option Fault) → (a or_else b) or_else c ≡ a or_else (b or_else c)
 or_else_assoc None b c = refl
-or_else_assoc (First f) b c = refl
+or_else_assoc (Some f) b c = refl
 
 -- the first fault counts
 pub fault_of_append : (n : ℕ) (es fs : List Fired) → fault_of n (es ++ fs) ≡ fault_of n es or_else fault_of n fs
 fault_of_append n [] fs = refl
 fault_of_append n (e ∷ es) fs = rw (fault_of_append n es fs) (sym (or_else_assoc (access_fault n e) (fault_of n es) (fault_of n fs)))
 
-or_else_none : (a : FirstFault) → a or_else None ≡ a
+or_else_none : (a : Option Fault) → a or_else None ≡ a
 or_else_none None = refl
-or_else_none (First f) = refl
+or_else_none (Some f) = refl
 
 pub fault_of_one : (n : ℕ) (e : Fired) → fault_of n (e ∷ []) ≡ access_fault n e
 fault_of_one n e = or_else_none (access_fault n e)
 
 -- what none, misaligned and out of bounds have, it has
-pub fault_of_is : (P : FirstFault → Type 0) → P None → P (First Misaligned) → P (First OutOfBounds) → (n : ℕ) (es : List Fired) → P (fault_of n es)
+pub fault_of_is : (P : Option Fault → Type 0) → P None → P (Some Misaligned) → P (Some OutOfBounds) → (n : ℕ) (es : List Fired) → P (fault_of n es)
 fault_of_is P none odd far n [] = none
 fault_of_is P none odd far n (e ∷ es) = by (is_mem e.op.opcode) (goes n (size_of e.op.opcode) (address_of e)) (fault_of_is P none odd far n es)
   where
-    by : (t : Bool) {x : Access} → Goes n (size_of e.op.opcode) (address_of e) x → P (fault_of n es) → P (pick t (fault_in x) None or_else fault_of n es)
+    by : (t : Bool) {x : Result ℕ Fault} → Goes n (size_of e.op.opcode) (address_of e) x → P (fault_of n es) → P (pick t (fault_in x) None or_else fault_of n es)
     by true (inside f) more = more
     by true misaligned more = odd
     by true outside more = far

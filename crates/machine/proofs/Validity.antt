@@ -1,51 +1,23 @@
 -- Laws of validity: of two banks, and what each register of a valid state has.
-use mathlib.Core.Path.{◌≡◌, refl, sym, ap, ◌∙◌}
+use mathlib.Core.Path.{◌≡◌, refl, ap}
 use mathlib.Core.Bool.{Bool, true, false, not, ◌||◌, ◌&&◌}
-use mathlib.Core.Bool.{or-true as or_all, or-false as or_nothing}
-use mathlib.Core.List.{List}
-use Prim.Native.Nat.{ℕ, zero, suc, ◌+◌, ◌%◌, ◌≤◌, ◌<◌}
-use native.Mathlib.Nat.{zero-add, add-zero, add-suc, le_step, le_refl}
-use lib.ListN.{length}
+use Prim.Native.Nat.{ℕ, ◌+◌, ◌%◌, ◌≤◌, ◌<◌}
+use native.Mathlib.Numerals.{add-one}
 use lib.Dec.{eqb, ltb, leb}
 use borrow.Author.Tests.{lt-ltb, le-ltb, le-leb, eq-eqb, ltb-true, ltb-false, leb-true, eqb-true, not-true, not-false}
 use Rattle.word.specs.Lists.{any_below}
 use Rattle.word.proofs.Choice.{is_false, never_both, or_false, and_true}
 use Rattle.word.proofs.Lists.{any_below_false, any_below_none}
 use Rattle.vliw.specs.Cell.{Cell, Registers, still, at}
-use Rattle.machine.specs.State.{registers_of, Sized}
 use Rattle.machine.specs.Valid.{is_zero_register, all_zero, bad_register}
-use Rattle.machine.specs.declared.State.{State}
-use Rattle.machine.proofs.Arrays.{cell_of, general_at_lem, branch_at}
 
--- ---- two banks
+-- ---- all registers, one by one
 
-or_swap : (a b c : Bool) → a || (b || c) ≡ b || (a || c)
-or_swap a true c = or_all a
-or_swap a false c = refl
+pub any_more : (f : ℕ → Bool) (n : ℕ) {a b : Bool} → a ≡ f n → b ≡ any_below f n → a || b ≡ any_below f (n + 1)
+any_more f n e h = rw (e, h, add-one n) refl
 
-any_below_add : (f : ℕ → Bool) (m n : ℕ) → any_below f (m + n) ≡ any_below f m || any_below (λ k. f (m + k)) n
-any_below_add f m zero = rw add-zero (sym (or_nothing (any_below f m)))
-any_below_add f m (suc n) = rw (add-suc m n, any_below_add f m n) (or_swap (f (m + n)) (any_below f m) (any_below (λ k. f (m + k)) n))
-
-any_below_same : (f g : ℕ → Bool) (n : ℕ) → ((k : ℕ) → k < n → f k ≡ g k) → any_below f n ≡ any_below g n
-any_below_same f g zero h = refl
-any_below_same f g (suc n) h = rw (h n (le_refl (suc n)), any_below_same f g n (λ k l. h k (le_step l)))
-
--- the test of register r + i, in a bank from register r up
-abbrev pub breaks_at : ℕ → List ℕ → List ℕ → List ℕ → List ℕ → ℕ → Bool
-breaks_at r vs ws bs ls i = bad_register (r + i) (cell_of vs ws bs ls i)
-
-pub banks_break : {s : State} → Sized s → {a b : Bool}
-    → a ≡ any_below (breaks_at 0 s.value s.waiting s.busy s.landing) (length s.value)
-    → b ≡ any_below (breaks_at 256 s.branch_value s.branch_waiting s.branch_busy s.branch_landing) (length s.branch_value)
-    → a || b ≡ any_below (λ r. bad_register r (at (registers_of s) r)) 288
-banks_break {s} z p q =
-    let f : ℕ → Bool = λ r. bad_register r (at (registers_of s) r) in
-    let g : ℕ → Bool = breaks_at 0 s.value s.waiting s.busy s.landing in
-    let h : ℕ → Bool = breaks_at 256 s.branch_value s.branch_waiting s.branch_busy s.branch_landing in
-    let general = ap (any_below g) z.value ∙ any_below_same g f 256 (λ i l. rw (zero-add i, general_at_lem z i l)) in
-    let branch = ap (any_below h) z.branch_value ∙ any_below_same h (λ i. f (256 + i)) 32 (λ i l. rw (branch_at z i l)) in
-    (λ k. (p ∙ general) k || (q ∙ branch) k) ∙ sym (any_below_add f 256 32)
+pub any_done : (f : ℕ → Bool) (n m : ℕ) {b : Bool} → n ≡ m → b ≡ any_below f n → b ≡ any_below f m
+any_done f n m e h = rw e at h
 
 -- ---- one register
 

@@ -1,9 +1,10 @@
 -- Document 01, "One instruction", of VEX: what an instruction does with the registers' values and the memory.
-use Rattle.std.specs.Prelude.{Bool, List, [], ◌∷◌, ◌++◌, map, ℕ, eqb, get_or, length}
+use Rattle.std.specs.Prelude.{Bool, List, [], ◌∷◌, ◌++◌, map, ℕ, eqb, get_or, length, Option, None, Some, Result}
 use Rattle.word.specs.Choice.{pick}
 use Rattle.word.specs.Bytes.{number_at}
 use Rattle.ops.specs.Value.{value, carry, address, loaded, stored}
 use Rattle.vliw.specs.Machine.{Out, fault, stop, go, Instruction}
+use Rattle.vliw.specs.declared.Fault.{Fault}
 use Rattle.vliw.specs.declared.Fault.TheVariants.{StoresClash, BadLink}
 use Rattle.isa.specs.Program.{is_start, operations_at, following}
 use Rattle.isa.specs.Touch.{reads, dests, nexts}
@@ -13,10 +14,8 @@ use Rattle.isa.specs.declared.Turn.{Turn}
 use Rattle.isa.specs.declared.Turn.TheVariants.{Onward, Stops, To, Calls, Back}
 use Rattle.isa.specs.declared.Op.{Op}
 use Rattle.isa.specs.declared.Delays.{Delays}
-use Rattle.memory.specs.Memory.{size_of, access, fault_in, offset_in, ◌or_else◌, Store, any_share}
-use Rattle.memory.specs.declared.Access.{Access}
-use Rattle.memory.specs.declared.FirstFault.{FirstFault}
-use Rattle.memory.specs.declared.FirstFault.TheVariants.{None, First}
+use Rattle.memory.specs.Memory.{size_of, access, fault_in, offset_in, ◌or_else◌, any_share}
+use Rattle.memory.specs.declared.Store.{Store}
 use Rattle.machine.specs.Link.{Memory, Change, storing, linking}
 
 -- an operation with the values of what it reads: of s1, of s2 or the immediate, of b, and of the register that a store stores
@@ -48,7 +47,7 @@ abbrev pub address_of : Fired → ℕ
 address_of e = address e.x e.op.offset
 
 -- where its access goes in a memory of so many bytes
-abbrev pub access_of : ℕ → Fired → Access
+abbrev pub access_of : ℕ → Fired → Result ℕ Fault
 access_of length e = access length (size_of e.op.opcode) (address_of e)
 
 -- the first result: of a load what is loaded, of a copy its source, of others the operation's value
@@ -74,11 +73,11 @@ stores_of length (e ∷ es) =
     let s : Store = record { at = offset_in (access_of length e); size = size_of e.op.opcode; value = stored e.op.opcode e.stored } in
     pick (is_store e.op) (s ∷ more) more
 
-abbrev pub access_fault : ℕ → Fired → FirstFault
+abbrev pub access_fault : ℕ → Fired → Option Fault
 access_fault length e = pick (is_mem e.op.opcode) (fault_in (access_of length e)) None
 
 -- "syllable by syllable, 12 before 13"
-abbrev pub fault_of : ℕ → List Fired → FirstFault
+abbrev pub fault_of : ℕ → List Fired → Option Fault
 fault_of length [] = None
 fault_of length (e ∷ es) = access_fault length e or_else fault_of length es
 
@@ -100,9 +99,9 @@ abbrev pub next_of : ℕ → List Fired → Next
 next_of following [] = at following
 next_of following (e ∷ es) = next_by (turn_of e.op.way e.b (place following)) (next_of following es)
 
-abbrev pub faulted : FirstFault → Out Change → Out Change
+abbrev pub faulted : Option Fault → Out Change → Out Change
 faulted None otherwise = otherwise
-faulted (First f) otherwise = fault f
+faulted (Some f) otherwise = fault f
 
 -- "all operands and loaded bytes are read before anything is written": 12 and 13, then 14, then the results, the stores and what becomes of
 -- the link

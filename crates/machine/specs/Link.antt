@@ -1,7 +1,8 @@
 -- The link register beside the bytes of memory: together they are the abstract machine's memory, and setting the link is one more store.
 -- "It sets the link register to the index of the instruction after it, at once": like a store, it is there before the next instruction.
 use Rattle.std.specs.Prelude.{List, ℕ}
-use Rattle.memory.specs.Memory.{Store, store}
+use Rattle.memory.specs.Memory.{store}
+use Rattle.memory.specs.declared.Store.{Store}
 
 pub record Memory : Type 0 where
   pub bytes : List ℕ

@@ -1,7 +1,12 @@
 -- Private to the code, nobody has to believe it: the state as the code holds it, arrays of values, waiting values, busy and landing counts, general and branch.
 use Rattle.std.specs.Prelude.{◌≡◌, List, [], ◌∷◌, ◌++◌, ℕ, length}
-use Rattle.vliw.specs.Cell.{Registers}
+use Rattle.vliw.specs.Cell.{Cell, Registers}
 use Rattle.machine.specs.declared.State.{State}
+use Rattle.machine.specs.declared.Cell.{Cell as Kept}
+
+-- a register that the code keeps
+abbrev pub cell_of : Kept → Cell
+cell_of c = record { value = c.value; waiting = c.waiting; busy = c.busy; landing = c.landing }
 
 -- four arrays as registers
 abbrev pub cells : List ℕ → List ℕ → List ℕ → List ℕ → Registers

@@ -1,13 +1,11 @@
 -- Loads and stores: which bytes an access goes to, and what it faults with. Memory is a list of bytes.
-use Rattle.std.specs.Prelude.{Bool, false, not, ◌||◌, ◌&&◌, List, [], ◌∷◌, ℕ, ◌+◌, ◌%◌, eqb, ltb}
+use Rattle.std.specs.Prelude.{Bool, false, not, ◌||◌, ◌&&◌, List, [], ◌∷◌, ℕ, ◌+◌, ◌%◌, eqb, ltb, Option, None, Some, Result, Ok, Err}
 use Rattle.word.specs.Choice.{pick}
 use Rattle.word.specs.Lists.{any}
 use Rattle.word.specs.Bytes.{put_number}
+use Rattle.vliw.specs.declared.Fault.{Fault}
 use Rattle.vliw.specs.declared.Fault.TheVariants.{Misaligned, OutOfBounds}
-use Rattle.memory.specs.declared.Access.{Access}
-use Rattle.memory.specs.declared.Access.TheVariants.{To, Refused}
-use Rattle.memory.specs.declared.FirstFault.{FirstFault}
-use Rattle.memory.specs.declared.FirstFault.TheVariants.{None, First}
+use Rattle.memory.specs.declared.Store.{Store}
 
 -- the access size: ldw and stw 4 bytes, ldh, ldhu and sth 2, ldb, ldbu and stb 1
 abbrev pub size_of : ℕ → ℕ
@@ -16,30 +14,26 @@ size_of opcode =
 
 -- Which bytes an access goes to, what may be done there and at which offset; the only definition of it.
 -- 12: "address no multiple of the access size"; 13: "access size plus address beyond memory". "The sum in 13 isn't reduced."
-abbrev pub access : ℕ → ℕ → ℕ → Access
+abbrev pub access : ℕ → ℕ → ℕ → Result ℕ Fault
 access length size address =
-    pick (not (eqb (address % size) 0)) (Refused Misaligned) (pick (ltb length (size + address)) (Refused OutOfBounds) (To address))
+    pick (not (eqb (address % size) 0)) (Err Misaligned) (pick (ltb length (size + address)) (Err OutOfBounds) (Ok address))
 
-abbrev pub fault_in : Access → FirstFault
-fault_in (To a) = None
-fault_in (Refused f) = First f
+abbrev pub fault_in : Result ℕ Fault → Option Fault
+fault_in (Ok a) = None
+fault_in (Err f) = Some f
 
 -- the offset, which is not asked of an access that is refused
-abbrev pub offset_in : Access → ℕ
-offset_in (To a) = a
-offset_in (Refused f) = 0
+abbrev pub offset_in : Result ℕ Fault → ℕ
+offset_in (Ok a) = a
+offset_in (Err f) = 0
 
 -- the first of two faults that come one after the other
 infixr 20 ◌or_else◌
-abbrev pub ◌or_else◌ : FirstFault → FirstFault → FirstFault
+abbrev pub ◌or_else◌ : Option Fault → Option Fault → Option Fault
 ◌or_else◌ None later = later
-◌or_else◌ (First f) later = First f
+◌or_else◌ (Some f) later = Some f
 
-pub record Store : Type 0 where
-  pub at : ℕ
-  pub size : ℕ
-  pub value : ℕ
-
+-- a store is its offset `at`, its size and its value
 abbrev pub store : Store → List ℕ → List ℕ
 store s m = put_number s.size s.at s.value m
 

@@ -2,10 +2,10 @@
 use mathlib.Core.Path.{◌≡◌, refl, sym, ap, ◌∙◌}
 use mathlib.Core.Bool.{Bool, true, false}
 use mathlib.Core.List.{List, [], ◌∷◌, ◌++◌, append_assoc}
-use mathlib.Core.Option.{Option, none, some}
+use Rattle.std.specs.Prelude.{Option, Some, None}
 use Prim.Native.Nat.{ℕ, ◌<◌}
 use native.Mathlib.Omega.{arith}
-use borrow.Author.Tests.{eq-eqb, ne_eqb, lt-ltb}
+use borrow.Author.Tests.{eq-eqb, ne_eqb}
 use lib.Dec.{eqb}
 use lib.ListN.{length}
 use Rattle.word.proofs.Choice.{and_true}
@@ -20,23 +20,22 @@ use Rattle.operations.specs.Table.{Item, table, row_at, moves}
 use Rattle.operations.specs.Grammar.{r, b, cluster_word, register_word, Operand, register, value, Front, Fits, mark_fits, link_fits, general_fits, branch_fits, general_either, branch_either, far_fits, named_fits, general_source, immediate_fits, field_fits, FitAll, no_items, more_items, Operation, FrontFits, FitsOperation, spell_from, spell_item, spell_items, spell_operation}
 use Rattle.operations.specs.Reader.{limit, register_in, read_cluster, read_name, read_register, own, own_either, of_any, read_value, read_source, read_item, read_items, read_from, fronted, read_named, read_after, read_operation}
 use Rattle.operations.specs.Promise.{Stands}
-use Rattle.operations.specs.declared.Register.TheVariants.{Not}
 use Rattle.operations.proofs.Spellings.{cluster_complete, register_complete}
 use Rattle.operations.proofs.Rows.{rows, row_of_name, plain, rows_plain}
 use Rattle.operations.proofs.Ends.{items_end}
 
 -- an expression's first word is no register
-not_register : (a : ℕ) (w : List ℕ) → eqb a 36 ≡ false → register_in (a ∷ w) ≡ Not
+not_register : (a : ℕ) (w : List ℕ) → eqb a 36 ≡ false → register_in (a ∷ w) ≡ None
 not_register a [] e = refl
 not_register a (m ∷ []) e = refl
 not_register a (m ∷ c ∷ []) e = refl
 not_register a (m ∷ c ∷ p ∷ w) e = rw e
 
-number_no_register : (w : List ℕ) → is_number w ≡ true → register_in w ≡ Not
+number_no_register : (w : List ℕ) → is_number w ≡ true → register_in w ≡ None
 number_no_register [] h = refl
 number_no_register (a ∷ w) h = not_register a w (apart is_decimal 36 a refl (and_true (is_decimal a) (every is_decimal w) h).0)
 
-label_no_register : (w : List ℕ) → is_label w ≡ true → register_in w ≡ Not
+label_no_register : (w : List ℕ) → is_label w ≡ true → register_in w ≡ None
 label_no_register [] h = refl
 label_no_register (a ∷ w) h = not_register a w (apart is_letter 36 a refl h)
 
@@ -56,7 +55,7 @@ register_found fits operand letter c n rest k h e = rw (register_complete letter
 own_is : (letter c : ℕ) → own letter c letter c ≡ true
 own_is letter c = rw (eq-eqb letter letter refl, eq-eqb c c refl)
 
-module _ (front : Front) (own_cluster : front.cluster < 4) (from_cluster : (k : ℕ) → front.from ≡ some k → k < 4) where
+module _ (front : Front) (own_cluster : front.cluster < 4) (from_cluster : (k : ℕ) → front.from ≡ Some k → k < 4) where
   item_complete : {i : Item} {o : Operand} → Fits front i o → (rest : List Token) → Ends rest → read_item front i (spell_item i o ++ rest) ≡ got o rest
   item_complete (mark_fits {m}) rest ends = rw (eq-eqb m m refl)
   item_complete link_fits rest ends = refl
@@ -81,23 +80,23 @@ module _ (front : Front) (own_cluster : front.cluster < 4) (from_cluster : (k : 
       (ap (map_got (λ xs. o ∷ xs)) (items_complete fs t.1 rest n))
 
 cluster_found : (c : ℕ) (rest : List Token) → c < 4 → read_cluster (Word (cluster_word c) ∷ rest) ≡ got c rest
-cluster_found c rest h = rw (cluster_complete c h, lt-ltb c 4 h)
+cluster_found c rest h = rw (cluster_complete c h)
 
 name_found : (row : ℕ) (rest : List Token) → row < length table → read_name (Word (row_at row).name ∷ rest) ≡ got row rest
-name_found row rest h = rw (row_of_name row (rw rows at h), lt-ltb row (length table) h)
+name_found row rest h = rw (row_of_name row (rw rows at h))
 
 from_found : (c : ℕ) (from : Option ℕ) (row : ℕ) (w : List ℕ) (rest : List Token) → FrontFits row from
     → read_from c (spell_from from ++ Word w ∷ rest) ≡ got (record { cluster = c; from = from }) (Word w ∷ rest)
-from_found c none row w rest h = refl
-from_found c (some k) row w rest h = ap (map_got (λ j. record { cluster = c; from = some j })) (cluster_found k (Word w ∷ rest) h.1)
+from_found c None row w rest h = refl
+from_found c (Some k) row w rest h = ap (map_got (λ j. record { cluster = c; from = Some j })) (cluster_found k (Word w ∷ rest) h.1)
 
-from_below : (row : ℕ) (from : Option ℕ) → FrontFits row from → (k : ℕ) → from ≡ some k → k < 4
-from_below row none h k e = absurd (let z : ◌≡◌ {A = ℕ} 0 1 = cc in omega arith)
-from_below row (some j) h k e = let s : j ≡ k = cc in rw (← s) h.1
+from_below : (row : ℕ) (from : Option ℕ) → FrontFits row from → (k : ℕ) → from ≡ Some k → k < 4
+from_below row None h k e = absurd (let z : ◌≡◌ {A = ℕ} 0 1 = cc in omega arith)
+from_below row (Some j) h k e = let s : j ≡ k = cc in rw (← s) h.1
 
 front_right : (row : ℕ) (from : Option ℕ) → FrontFits row from → fronted row from ≡ true
-front_right row none h = rw (ne_eqb row moves h)
-front_right row (some k) h = eq-eqb row moves h.0
+front_right row None h = rw (ne_eqb row moves h)
+front_right row (Some k) h = eq-eqb row moves h.0
 
 operation_found : (o : Operation) (rest : List Token) → FitsOperation o → Ends rest → read_operation (spell_operation o ++ rest) ≡ got o rest
 unfolding read_operation

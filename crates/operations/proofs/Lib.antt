@@ -1,11 +1,8 @@
 pub mod Spellings
-pub mod Judged
 pub mod Finite
 pub mod Rows
 pub mod Naming
-pub mod Found
-pub mod Steps
-pub mod Letters
+pub mod Breadths
 pub mod Gathering
 pub mod Reading
 pub mod Sound

@@ -1,68 +1,63 @@
 -- A name is looked for along the code's table.
 use mathlib.Core.Path.{◌≡◌, refl, sym, ap, ap₂, ◌∙◌}
-use mathlib.Core.Bool.{Bool, true, false}
+use mathlib.Core.Bool.{Bool, true, false, not, cond, ◌&&◌}
 use mathlib.Core.List.{List, [], ◌∷◌}
 use Prim.Native.Nat.{ℕ, suc, ◌+◌, ◌*◌, ◌-◌, ◌≤◌, ◌<◌}
 use native.Mathlib.Omega.{arith}
-use borrow.Author.Tests.{eq-eqb, ne_eqb}
 use lib.Dec.{eqb}
-use lib.ListN.{length, get_or, take, drop, drop_of_length-le}
+use lib.Pointwise.{pointwise}
+use lib.ListN.{length, take, drop, drop_of_length-le}
 use lib.Seq.{drop-cons}
+use Rattle.std.specs.Prelude.{Option, Some, None, option_map}
+use Rattle.std.specs.List.{prefix_len}
 use Rattle.word.specs.Choice.{pick}
-use Rattle.tokens.proofs.Places.{byte_at}
 use Rattle.operations.specs.Table.{Row, table}
 use Rattle.operations.specs.Reader.{row_from, row_of}
 use Rattle.tokens.specs.Tokens.{same}
 use Rattle.operations.specs.Code.{text, row_text, until_blank}
 use Rattle.operations.proofs.Rows.{rows, names}
 
--- whether a row's name goes on as a word does
-abbrev pub same_from : List ℕ → List ℕ → ℕ → Bool
-same_from row w i = same (until_blank (drop i row)) (drop i w)
+-- how much of a row its name is
+pub name_part : (row : List ℕ) → take (prefix_len (λ b. not (eqb b 32)) row) row ≡ until_blank row
+name_part [] = refl
+name_part (b ∷ row) = go (eqb b 32) (name_part row)
+  where
+    go : (x : Bool) → take (prefix_len (λ b. not (eqb b 32)) row) row ≡ until_blank row
+        → take (cond (not x) (1 + prefix_len (λ b. not (eqb b 32)) row) 0) (b ∷ row) ≡ pick x [] (b ∷ until_blank row)
+    go true h = refl
+    go false h = let n : 1 + prefix_len (λ b. not (eqb b 32)) row ≡ suc (prefix_len (λ b. not (eqb b 32)) row) = omega arith in rw n (ap (λ (s : List ℕ). b ∷ s) h)
 
-module _ (row w : List ℕ) (i : ℕ) where
-  pub from_end : length row ≤ i → i < length w → false ≡ same_from row w i
-  from_end h k = rw (drop_of_length-le row {i = i} h, byte_at w i k)
-
-  pub from_blank : i < length row → get_or row i 0 ≡ 32 → i < length w → false ≡ same_from row w i
-  from_blank h b k = rw (byte_at row i h, byte_at w i k, eq-eqb (get_or row i 0) 32 b)
-
-  pub from_other : i < length row → (get_or row i 0 ≡ 32 → ⊥) → i < length w → (get_or row i 0 ≡ get_or w i 0 → ⊥) → false ≡ same_from row w i
-  from_other h b k d = rw (byte_at row i h, byte_at w i k, ne_eqb (get_or row i 0) 32 b, ne_eqb (get_or row i 0) (get_or w i 0) d)
-
-  pub from_next : i < length row → (get_or row i 0 ≡ 32 → ⊥) → i < length w → get_or row i 0 ≡ get_or w i 0 → same_from row w i ≡ same_from row w (i + 1)
-  from_next h b k e = rw (byte_at row i h, byte_at w i k, ne_eqb (get_or row i 0) 32 b, eq-eqb (get_or row i 0) (get_or w i 0) e)
-
-  pub from_both : length row ≤ i → length w ≤ i → true ≡ same_from row w i
-  from_both h k = rw (drop_of_length-le row {i = i} h, drop_of_length-le w {i = i} k)
-
-  pub from_last : i < length row → length w ≤ i → eqb (get_or row i 0) 32 ≡ same_from row w i
-  from_last h k = rw (drop_of_length-le w {i = i} k, byte_at row i h) (go (eqb (get_or row i 0) 32))
-    where
-      go : (x : Bool) → x ≡ same (pick x [] (get_or row i 0 ∷ until_blank (drop (i + 1) row))) []
-      go true = refl
-      go false = refl
+pub pointwise_same : (v w : List ℕ) → pointwise eqb v w ≡ same v w
+pointwise_same [] [] = refl
+pointwise_same [] (b ∷ w) = refl
+pointwise_same (a ∷ v) [] = refl
+pointwise_same (a ∷ v) (b ∷ w) = ap (λ x. eqb a b && x) (pointwise_same v w)
 
 -- the rows before a place are not it
 abbrev pub Passed : List ℕ → ℕ → Type 0
-Passed w row = (row ≤ 58) × (row_of w ≡ row + row_from (drop row table) w)
+Passed w row = (row ≤ 58) × (row_of w ≡ option_map (λ k. row + k) (row_from (drop row table) w))
 
-module _ (w : List ℕ) (row : ℕ) where
-  from_row : row < 58 → row_from (drop row table) w ≡ pick (same (until_blank (row_text row)) w) 0 (suc (row_from (drop (suc row) table) w))
-  from_row h =
-      let k : row < length table = rw rows h in
-      ap (λ (xs : List Row). row_from xs w) (drop-cons table row _ k) ∙ ap (λ v. pick (same v w) 0 (suc (row_from (drop (suc row) table) w))) (names row h)
+next_map : (row : ℕ) (g : Option ℕ) → option_map (λ k. row + k) (option_map suc g) ≡ option_map (λ k. row + 1 + k) g
+next_map row None = refl
+next_map row (Some k) = ap Some (omega arith)
 
-  pub row_here : row < 58 → same (until_blank (row_text row)) w ≡ true → Passed w row → row ≡ row_of w
-  row_here h e p = sym (p.1 ∙ rw (from_row h, e) (omega arith))
+module _ (w : List ℕ) where
+  module _ (row : ℕ) where
+    from_row : row < 58 → row_from (drop row table) w ≡ pick (same (until_blank (row_text row)) w) (Some 0) (option_map suc (row_from (drop (suc row) table) w))
+    from_row h =
+        let k : row < length table = rw rows h in
+        ap (λ (xs : List Row). row_from xs w) (drop-cons table row _ k) ∙ ap (λ v. pick (same v w) (Some 0) (option_map suc (row_from (drop (suc row) table) w))) (names row h)
 
-  pub row_next : row < 58 → same (until_blank (row_text row)) w ≡ false → Passed w row → Passed w (row + 1)
-  row_next h e p =
-      let n : suc row ≡ row + 1 = omega arith in
-      (omega arith, p.1 ∙ (rw (from_row h, e) (omega arith) ∙ ap (λ k. row + 1 + row_from (drop k table) w) n))
+    pub row_here : row < 58 → same (until_blank (row_text row)) w ≡ true → Passed w row → Some row ≡ row_of w
+    row_here h e p = let n : row + 0 ≡ row = omega arith in sym (p.1 ∙ rw (from_row h, e) (ap Some n))
 
-  pub row_none : 58 ≤ row → Passed w row → row ≡ row_of w
-  row_none h p = let n : length table ≤ row = rw rows h in sym (p.1 ∙ rw (drop_of_length-le table {i = row} n) (omega arith))
+    pub row_next : row < 58 → same (until_blank (row_text row)) w ≡ false → Passed w row → Passed w (row + 1)
+    row_next h e p =
+        let n : suc row ≡ row + 1 = omega arith in
+        (omega arith, p.1 ∙ (rw (from_row h, e) (next_map row (row_from (drop (suc row) table) w)) ∙ ap (λ k. option_map (λ j. row + 1 + j) (row_from (drop k table) w)) n))
+
+  pub row_none : (row : ℕ) → 58 ≤ row → Passed w row → None ≡ row_of w
+  row_none row h p = let n : length table ≤ row = rw rows h in sym (p.1 ∙ rw (drop_of_length-le table {i = row} n))
 
 -- a row, as it is lent
 pub row_part : (t : List ℕ) (row : ℕ) → t ≡ text → take (row * 16 + 16 - row * 16) (drop (row * 16) t) ≡ row_text row

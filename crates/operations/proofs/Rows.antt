@@ -4,6 +4,7 @@ use mathlib.Core.Bool.{Bool, true, not}
 use Prim.Native.Nat.{ℕ, ◌+◌, ◌^◌, ◌<◌}
 use lib.Dec.{leb}
 use lib.ListN.{length}
+use Rattle.std.specs.Prelude.{Some}
 use Rattle.lines.specs.Lines.{every}
 use Rattle.expressions.specs.Skipped.{is_operator}
 use Rattle.operations.specs.Table.{Item, mark, link, general, branch, either, far, source, field, table, row_at}
@@ -16,9 +17,9 @@ unfolding table
 rows = refl
 
 -- no two rows have one name
-pub row_of_name : (row : ℕ) → row < 58 → row_of (row_at row).name ≡ row
+pub row_of_name : (row : ℕ) → row < 58 → row_of (row_at row).name ≡ Some row
 unfolding table
-row_of_name = agree (λ row. row_of (row_at row).name) (λ row. row) 58 refl
+row_of_name = agree (λ row. row_of (row_at row).name) (λ row. Some row) 58 refl
 
 -- no mark of an operation goes on an expression before it
 abbrev pub plain : Item → Bool

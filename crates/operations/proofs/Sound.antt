@@ -3,11 +3,12 @@ use mathlib.Core.Path.{◌≡◌, refl, sym, subst, ap, ap₂, ◌∙◌}
 use mathlib.Core.Bool.{Bool, true, false, ◌||◌}
 use mathlib.Core.List.{List, [], ◌∷◌, ◌++◌, append_assoc}
 use mathlib.Core.Logic.{⊎_elim}
-use mathlib.Core.Option.{Option, none, some}
+use Rattle.std.specs.Prelude.{Option, Some, None}
+use Rattle.std.specs.Option.{option_map}
 use Prim.Native.Nat.{ℕ, suc, ◌<◌}
 use native.Mathlib.Omega.{arith}
-use borrow.Author.Tests.{eqb-true, eqb-false, ltb-true, not-true}
-use lib.Dec.{eqb, ltb}
+use borrow.Author.Tests.{eqb-true, eqb-false, not-true}
+use lib.Dec.{eqb}
 use lib.ListN.{length, get_or}
 use Rattle.word.specs.Choice.{pick}
 use Rattle.word.proofs.Choice.{and_true, or_true}
@@ -18,11 +19,10 @@ use Rattle.expressions.proofs.Got.{bad_not_got, got_same, then_got, map_got_lem}
 use Rattle.expressions.proofs.Sound.{read_sound}
 use Rattle.operations.specs.Table.{Row, Item, mark, link, general, branch, either, far, source, field, table, row_at, moves}
 use Rattle.operations.specs.Grammar.{r, b, cluster_word, register_word, Operand, nothing, register, value, Front, Fits, mark_fits, link_fits, general_fits, branch_fits, general_either, branch_either, far_fits, named_fits, general_source, immediate_fits, field_fits, FitAll, no_items, more_items, Operation, FrontFits, FitsOperation, spell_from, spell_item, spell_items, spell_operation}
-use Rattle.operations.specs.Reader.{l, limit, cluster_in, register_in, row_from, row_of, first_word, numbered, read_cluster, read_name, kept, read_register, own, own_either, allowed, of_any, is_link, read_mark, read_value, source_by, read_source, read_item, read_items, read_from, read_front, fronted, read_operation}
+use Rattle.operations.specs.Reader.{l, limit, cluster_in, register_in, row_from, row_of, first_word, got_some, read_word, read_cluster, read_name, kept, read_register, own, own_either, allowed, of_any, is_link, read_mark, read_value, source_by, read_source, read_item, read_items, read_from, read_front, fronted, read_operation}
 use Rattle.tokens.specs.Tokens.{same}
 use Rattle.operations.specs.declared.Register.{Register}
-use Rattle.operations.specs.declared.Register.TheVariants.{Not, Is}
-use Rattle.operations.proofs.Spellings.{cluster_sound, register_sound}
+use Rattle.operations.proofs.Spellings.{none_not_some, some_same, cluster_sound, register_sound}
 use Rattle.tokens.proofs.Same.{same_true}
 
 picked : {A : Type 0} (x : Bool) {g : Got A} {a : A} {rest : List Token} → pick x g bad ≡ got a rest → (x ≡ true) × (g ≡ got a rest)
@@ -35,31 +35,38 @@ word_got f [] e = absurd (bad_not_got e)
 word_got f (Word w ∷ ts) e = (w, ts, refl, e)
 word_got f (Mark m ∷ ts) e = absurd (bad_not_got e)
 
-numbered_got : (n : ℕ) (f : List ℕ → ℕ) (ts : List Token) {k : ℕ} {rest : List Token} → numbered n f ts ≡ got k rest
-    → (w : List ℕ) × (ts ≡ Word w ∷ rest) × (f w ≡ k) × (f w < n)
-numbered_got n f ts e =
+some_read : {A : Type 0} (x : Option A) (ts : List Token) {a : A} {rest : List Token} → got_some x ts ≡ got a rest → (x ≡ Some a) × (ts ≡ rest)
+some_read None ts e = absurd (bad_not_got e)
+some_read (Some x) ts e = let g = got_same e in (ap Some g.0, g.1)
+
+word_read : {A : Type 0} (f : List ℕ → Option A) (ts : List Token) {a : A} {rest : List Token} → read_word f ts ≡ got a rest
+    → (w : List ℕ) × (ts ≡ Word w ∷ rest) × (f w ≡ Some a)
+word_read f ts e =
     let g = word_got _ ts e in
-    let p = picked (ltb (f g.0) n) g.3 in
-    (g.0, g.2 ∙ ap (λ s. Word g.0 ∷ s) (got_same p.1).1, (got_same p.1).0, ltb-true (f g.0) n p.0)
+    let p = some_read (f g.0) g.1 g.3 in
+    (g.0, g.2 ∙ ap (λ s. Word g.0 ∷ s) p.1, p.0)
 
 cluster_read : (ts : List Token) {c : ℕ} {rest : List Token} → read_cluster ts ≡ got c rest → (ts ≡ Word (cluster_word c) ∷ rest) × (c < 4)
 cluster_read ts {c} {rest} e =
-    let g = numbered_got 4 cluster_in ts e in
-    (g.1 ∙ ap (λ w. Word w ∷ rest) (cluster_sound g.0 g.3 ∙ ap cluster_word g.2), rw g.2 at g.3)
+    let g = word_read cluster_in ts e in
+    let s = cluster_sound g.0 g.2 in
+    (g.1 ∙ ap (λ w. Word w ∷ rest) s.0, s.1)
 
-row_found : (xs : List Row) (w : List ℕ) (d : Row) → row_from xs w < length xs → (get_or xs (row_from xs w) d).name ≡ w
-row_found [] w d h = absurd (omega arith)
-row_found (x ∷ xs) w d h = go (same x.name w) refl h (row_found xs w d)
+row_found : (xs : List Row) (w : List ℕ) (d : Row) {n : ℕ} → row_from xs w ≡ Some n → ((get_or xs n d).name ≡ w) × (n < length xs)
+row_found [] w d e = absurd (none_not_some e)
+row_found (x ∷ xs) w d {n} e = go (same x.name w) (row_from xs w) refl e (λ k. row_found xs w d {n = k})
   where
-    go : (t : Bool) → same x.name w ≡ t → pick t 0 (suc (row_from xs w)) < length (x ∷ xs) → (row_from xs w < length xs → (get_or xs (row_from xs w) d).name ≡ w)
-        → (get_or (x ∷ xs) (pick t 0 (suc (row_from xs w))) d).name ≡ w
-    go true e h more = same_true x.name w e
-    go false e h more = more (omega arith)
+    go : (t : Bool) (g : Option ℕ) → same x.name w ≡ t → pick t (Some 0) (option_map suc g) ≡ Some n
+        → ((k : ℕ) → g ≡ Some k → ((get_or xs k d).name ≡ w) × (k < length xs)) → ((get_or (x ∷ xs) n d).name ≡ w) × (n < length (x ∷ xs))
+    go true g e h more = rw (← some_same h) (same_true x.name w e, omega arith)
+    go false None e h more = absurd (none_not_some h)
+    go false (Some k) e h more = let m = more k refl in rw (← some_same h) (m.0, omega arith)
 
 name_read : (ts : List Token) {row : ℕ} {rest : List Token} → read_name ts ≡ got row rest → (ts ≡ Word (row_at row).name ∷ rest) × (row < length table)
 name_read ts {row} {rest} e =
-    let g = numbered_got (length table) row_of ts e in
-    (g.1 ∙ ap (λ w. Word w ∷ rest) (sym (row_found table g.0 _ g.3) ∙ ap (λ k. (row_at k).name) g.2), rw g.2 at g.3)
+    let g = word_read row_of ts e in
+    let s = row_found table g.0 _ g.2 in
+    (g.1 ∙ ap (λ w. Word w ∷ rest) (sym s.0), s.1)
 
 -- what a register's word was read as
 record Named (fits : ℕ → ℕ → Bool) (operand : ℕ → ℕ → ℕ → Operand) (ts : List Token) (o : Operand) (rest : List Token) : Type 0 where
@@ -72,17 +79,17 @@ record Named (fits : ℕ → ℕ → Bool) (operand : ℕ → ℕ → ℕ → Op
   cluster : c < 4
   number : n < limit letter
 
-kept_read : (fits : ℕ → ℕ → Bool) (operand : ℕ → ℕ → ℕ → Operand) (w : List ℕ) (x : Register) (ts : List Token) {o : Operand} {rest : List Token}
+kept_read : (fits : ℕ → ℕ → Bool) (operand : ℕ → ℕ → ℕ → Operand) (w : List ℕ) (x : Option Register) (ts : List Token) {o : Operand} {rest : List Token}
     → register_in w ≡ x → kept fits operand x ts ≡ got o rest → Named fits operand (Word w ∷ ts) o rest
-kept_read fits operand w Not ts h e = absurd (bad_not_got e)
-kept_read fits operand w (Is letter c n) ts h e =
-    let p = picked (fits letter c) e in
+kept_read fits operand w None ts h e = absurd (bad_not_got e)
+kept_read fits operand w (Some x) ts h e =
+    let p = picked (fits x.letter x.cluster) e in
     let g = got_same p.1 in
     let s = register_sound w h in
     record {
-      letter = letter;
-      c = c;
-      n = n;
+      letter = x.letter;
+      c = x.cluster;
+      n = x.number;
       fitting = p.0;
       is = g.0;
       spelt = ap₂ (λ (v : List ℕ) (u : List Token). Word v ∷ u) s.spelt g.1;
@@ -95,12 +102,6 @@ register_read : (fits : ℕ → ℕ → Bool) (operand : ℕ → ℕ → ℕ →
 register_read fits operand [] e = absurd (bad_not_got e)
 register_read fits operand (Word w ∷ ts) e = kept_read fits operand w (register_in w) ts refl e
 register_read fits operand (Mark m ∷ ts) e = absurd (bad_not_got e)
-
-none_not_some : {k : ℕ} → none ≡ some k → ⊥
-none_not_some e = let z : ◌≡◌ {A = ℕ} 0 1 = cc in omega arith
-
-some_same : {j k : ℕ} → some j ≡ some k → j ≡ k
-some_same e = cc
 
 abbrev Sound : Front → Item → List Token → Operand → List Token → Type 0
 Sound front i ts o rest = Fits front i o × (ts ≡ spell_item i o ++ rest)
@@ -131,8 +132,8 @@ module _ (front : Front) where
       rw m (go front.from refl t.1 (rw m at h))
     where
       go : (from : Option ℕ) → front.from ≡ from → allowed from c ≡ true → n < 64 → Fits front far (register r c n)
-      go none f a h = far_fits f k h
-      go (some d) f a h = named_fits (f ∙ ap some (sym (eqb-true c d a))) h
+      go None f a h = far_fits f k h
+      go (Some d) f a h = named_fits (f ∙ ap Some (sym (eqb-true c d a))) h
 
   named : (i : Item) (fits : ℕ → ℕ → Bool) (ts : List Token) {o : Operand} {rest : List Token}
       → ((letter c n : ℕ) → spell_item i (register letter c n) ≡ Word (register_word letter c n) ∷ [])
@@ -168,12 +169,12 @@ module _ (front : Front) where
       let s = read_sound 16 ts rest g.0 g.1 in
       subst (λ x. Sound front i ts x rest) g.2 (make g.0 s.fits, s.spelt ∙ ap (λ y. y ++ rest) (sym (spells g.0)))
 
-  source_by_lem : (w : List ℕ) (x : Register) (ts : List Token) {o : Operand} {rest : List Token} → register_in w ≡ x
+  source_by_lem : (w : List ℕ) (x : Option Register) (ts : List Token) {o : Operand} {rest : List Token} → register_in w ≡ x
       → source_by front.cluster x (Word w ∷ ts) ≡ got o rest → Sound front source (Word w ∷ ts) o rest
-  source_by_lem w Not ts h e = value_sound source (λ e h. immediate_fits h) (λ e. refl) (Word w ∷ ts) e
-  source_by_lem w (Is letter c n) ts {o} {rest} h e =
-      let g = kept_read (own r front.cluster) register w (Is letter c n) ts h e in
-      subst (λ x. Sound front source (Word w ∷ ts) x rest) g.is
+  source_by_lem w None ts h e = value_sound source (λ e h. immediate_fits h) (λ e. refl) (Word w ∷ ts) e
+  source_by_lem w (Some x) ts {o} {rest} h e =
+      let g = kept_read (own r front.cluster) register w (Some x) ts h e in
+      subst (λ y. Sound front source (Word w ∷ ts) y rest) g.is
       (own_fits (λ x. Fits front source x) r (λ n h. general_source h) g.letter g.c g.n g.fitting g.number, g.spelt)
 
   source_sound : (ts : List Token) {o : Operand} {rest : List Token} → read_source front.cluster ts ≡ got o rest → Sound front source ts o rest
@@ -210,29 +211,29 @@ module _ (front : Front) where
       (more_items h.0 t.0, h.1 ∙ (ap (λ y. spell_item i a.0 ++ y) t.1 ∙ sym (append_assoc (spell_item i a.0) (spell_items is m.0) rest)))
 
 front_read : (ts : List Token) {front : Front} {rest : List Token} → read_front ts ≡ got front rest
-    → (ts ≡ Word (cluster_word front.cluster) ∷ spell_from front.from ++ rest) × (front.cluster < 4) × ((k : ℕ) → front.from ≡ some k → k < 4)
+    → (ts ≡ Word (cluster_word front.cluster) ∷ spell_from front.from ++ rest) × (front.cluster < 4) × ((k : ℕ) → front.from ≡ Some k → k < 4)
 front_read ts {front} {rest} e =
     let a = then_got (read_cluster ts) _ e in
     let c = cluster_read ts a.2 in
     go a.0 a.1 c.0 c.1 a.3
   where
     go : (c : ℕ) (mid : List Token) → ts ≡ Word (cluster_word c) ∷ mid → c < 4 → read_from c mid ≡ got front rest
-        → (ts ≡ Word (cluster_word front.cluster) ∷ spell_from front.from ++ rest) × (front.cluster < 4) × ((k : ℕ) → front.from ≡ some k → k < 4)
+        → (ts ≡ Word (cluster_word front.cluster) ∷ spell_from front.from ++ rest) × (front.cluster < 4) × ((k : ℕ) → front.from ≡ Some k → k < 4)
     go c [] s h e = absurd (bad_not_got e)
     go c (Word w ∷ mid) s h e =
         let g = got_same e in
-        subst (λ f. (ts ≡ Word (cluster_word f.cluster) ∷ spell_from f.from ++ rest) × (f.cluster < 4) × ((k : ℕ) → f.from ≡ some k → k < 4)) g.0
+        subst (λ f. (ts ≡ Word (cluster_word f.cluster) ∷ spell_from f.from ++ rest) × (f.cluster < 4) × ((k : ℕ) → f.from ≡ Some k → k < 4)) g.0
         (s ∙ ap (λ y. Word (cluster_word c) ∷ y) g.1, h, λ k i. absurd (none_not_some i))
     go c (Mark m ∷ mid) s h e =
         let p = picked (eqb m 61) e in
         let g = map_got_lem _ (read_cluster mid) p.1 in
         let d = cluster_read mid g.1 in
-        subst (λ f. (ts ≡ Word (cluster_word f.cluster) ∷ spell_from f.from ++ rest) × (f.cluster < 4) × ((k : ℕ) → f.from ≡ some k → k < 4)) g.2
+        subst (λ f. (ts ≡ Word (cluster_word f.cluster) ∷ spell_from f.from ++ rest) × (f.cluster < 4) × ((k : ℕ) → f.from ≡ Some k → k < 4)) g.2
         (s ∙ ap₂ (λ (j : ℕ) (u : List Token). Word (cluster_word c) ∷ Mark j ∷ u) (eqb-true m 61 p.0) d.0, h, λ k i. rw (← some_same i) d.1)
 
-front_fits : (row : ℕ) (from : Option ℕ) → fronted row from ≡ true → ((k : ℕ) → from ≡ some k → k < 4) → FrontFits row from
-front_fits row none e h = eqb-false row moves (not-true (eqb row moves) e)
-front_fits row (some k) e h = (eqb-true row moves e, h k refl)
+front_fits : (row : ℕ) (from : Option ℕ) → fronted row from ≡ true → ((k : ℕ) → from ≡ Some k → k < 4) → FrontFits row from
+front_fits row None e h = eqb-false row moves (not-true (eqb row moves) e)
+front_fits row (Some k) e h = (eqb-true row moves e, h k refl)
 
 pub operation_sound : (ts rest : List Token) (o : Operation) → read_operation ts ≡ got o rest → FitsOperation o × (ts ≡ spell_operation o ++ rest)
 unfolding read_operation

@@ -1,6 +1,6 @@
 -- Private to the code, nobody has to believe it: its own table, and what its steps say.
-use Rattle.std.specs.Prelude.{◌≡◌, Bool, true, false, ◌||◌, List, [], ◌∷◌, ◌++◌, map, ℕ, ◌+◌, ◌*◌, ◌-◌, ◌^◌, ◌≤◌, ◌<◌, eqb, ltb, length, take, drop}
-use Rattle.std.proofs.Math.Option.{Option, none, some}
+use Rattle.std.specs.Prelude.{◌≡◌, Bool, true, false, List, [], ◌∷◌, ◌++◌, map, ℕ, ◌+◌, ◌*◌, ◌-◌, ◌^◌, ◌≤◌, ◌<◌, eqb, ltb, length, take, drop, Option, Some, None}
+use Rattle.std.specs.Option.{option_or}
 use Rattle.word.specs.Choice.{pick}
 use Rattle.tokens.specs.Tokens.{Token, letters, tokens}
 use Rattle.expressions.specs.Reader.{Got, bad, got, map_got}
@@ -8,17 +8,10 @@ use Rattle.operations.specs.Table.{Field, Item, mark, link, general, branch, eit
 use Rattle.operations.specs.Grammar.{Operand, Front}
 use Rattle.operations.specs.Meaning.{Asked, asked, or_else, number_of, placed, asked_by, asked_in, asked_of, bits, Said}
 use Rattle.operations.specs.Reader.{limit, first_register, after, read_item}
-use Rattle.operations.specs.Parsed.{breadth, asked_at}
+use Rattle.operations.specs.Parsed.{Asks, breadth, asked_at, Begins}
 use Rattle.operations.specs.declared.Operation.{Operation}
-use Rattle.operations.specs.declared.Register.TheVariants as register
-use Rattle.operations.specs.declared.Parsed.{Parsed}
-use Rattle.operations.specs.declared.Parsed.TheVariants as parsed
-use Rattle.operations.specs.declared.Named.{Named}
-use Rattle.operations.specs.declared.Named.TheVariants as named
-use Rattle.operations.specs.declared.Numbered.{Numbered}
-use Rattle.operations.specs.declared.Numbered.TheVariants as numbered
+use Rattle.operations.specs.declared.Register.{Register}
 use Rattle.operations.specs.declared.Step.{Step}
-use Rattle.operations.specs.declared.Step.TheVariants as step
 
 -- 16 bytes a row: its name, and from byte 7 on the letters of its items, each up to a blank
 unfoldable pub text : List ℕ
@@ -57,32 +50,28 @@ items_in s = map item_of (until_blank s)
 abbrev pub base_of : ℕ → ℕ
 base_of row = pick (ltb row 4) (row * 2 ^ 18) (pick (ltb row 43) ((row - 3) * 2 ^ 24) (pick (ltb row 57) ((row + 7) * 2 ^ 24) (60 * 2 ^ 24)))
 
--- 4 stands for no second cluster
-abbrev pub from_of : ℕ → Option ℕ
-from_of k = pick (eqb k 4) none (some k)
+abbrev pub front_of : ℕ → Option ℕ → Front
+front_of c k = record { cluster = c; from = k }
 
-abbrev pub front_of : ℕ → ℕ → Front
-front_of c k = record { cluster = c; from = from_of k }
+-- a cluster, and the tokens after the place
+abbrev pub numbered_by : List ℕ → Option (ℕ × ℕ) → Got ℕ
+numbered_by line None = bad
+numbered_by line (Some p) = got p.1 (tokens (drop p.0 line))
 
--- a number, and the tokens after the place
-abbrev pub numbered_by : List ℕ → Numbered → Got ℕ
-numbered_by line numbered.Not = bad
-numbered_by line (numbered.At n c) = got c (tokens (drop n line))
-
-abbrev pub Onward : List ℕ → ℕ → Numbered → Type 0
-Onward line at numbered.Not = Unit {0}
-Onward line at (numbered.At n c) = (at < n) × (n ≤ length line) × (c < 4)
+abbrev pub Onward : List ℕ → ℕ → Option (ℕ × ℕ) → Type 0
+Onward line at None = Unit {0}
+Onward line at (Some p) = (at < p.0) × (p.0 ≤ length line) × (p.1 < 4)
 
 -- a register, and the place after it
-abbrev pub Names : List ℕ → ℕ → Named → Type 0
-Names line at named.Not = first_register (tokens (drop at line)) ≡ register.Not
-Names line at (named.At to letter c n) =
-    (first_register (tokens (drop at line)) ≡ register.Is letter c n)
-    × (after (tokens (drop at line)) ≡ tokens (drop to line))
-    × (at < to)
-    × (to ≤ length line)
-    × (c < 4)
-    × (n < limit letter)
+abbrev pub Names : List ℕ → ℕ → Option (ℕ × Register) → Type 0
+Names line at None = first_register (tokens (drop at line)) ≡ None
+Names line at (Some p) =
+    (first_register (tokens (drop at line)) ≡ Some p.1)
+    × (after (tokens (drop at line)) ≡ tokens (drop p.0 line))
+    × (at < p.0)
+    × (p.0 ≤ length line)
+    × (p.1.cluster < 4)
+    × (p.1.number < limit p.1.letter)
 
 -- what an item does to the syllable
 pub record Effect : Type 0 where
@@ -100,24 +89,26 @@ scaled scale o = record { adds = number_of o * scale; asks = Asked.none }
 abbrev pub in_place : ℕ → Field → Operand → Effect
 in_place adds f o = record { adds = adds; asks = asked_in f o }
 
-abbrev pub step_by : List ℕ → Step → Got Effect
-step_by line step.Bad = bad
-step_by line (step.At n adds k from) = got (record { adds = adds; asks = asked_at line k from }) (tokens (drop n line))
+abbrev pub step_by : List ℕ → Option Step → Got Effect
+step_by line None = bad
+step_by line (Some s) = got (record { adds = s.adds; asks = asked_at line s.asks }) (tokens (drop s.to line))
 
 abbrev pub is_asked : Asked → Bool
 is_asked Asked.none = false
 is_asked (asked f e) = true
 
 -- where there is a field there is an expression
-abbrev pub firm : List ℕ → ℕ → ℕ → Bool
-firm line k from = eqb k 0 || is_asked (asked_at line k from)
+abbrev pub firm : List ℕ → Asks → Bool
+firm line None = true
+firm line (Some a) = is_asked (asked_at line (Some a))
 
 -- the places are in the line, and what is added is at most `most`, with any value of the field
-abbrev pub Within : List ℕ → ℕ → ℕ → Step → Type 0
-Within line at most step.Bad = Unit {0}
-Within line at most (step.At n adds k from) = (at < n) × (n ≤ length line) × (from ≤ length line) × (k < 6) × (adds + breadth k ≤ most + 1) × (firm line k from ≡ true)
+abbrev pub Within : List ℕ → ℕ → ℕ → Option Step → Type 0
+Within line at most None = Unit {0}
+Within line at most (Some s) =
+    (at < s.to) × (s.to ≤ length line) × Begins line s.asks × (s.adds + breadth s.asks ≤ most + 1) × (firm line s.asks ≡ true)
 
-abbrev pub Steps : List ℕ → ℕ → (List Token → Got Operand) → (Operand → Effect) → ℕ → Step → Type 0
+abbrev pub Steps : List ℕ → ℕ → (List Token → Got Operand) → (Operand → Effect) → ℕ → Option Step → Type 0
 Steps line at read eff most r = (step_by line r ≡ map_got eff (read (tokens (drop at line)))) × Within line at most r
 
 -- the most that an item adds
@@ -135,13 +126,12 @@ abbrev pub most_of : List Item → ℕ
 most_of [] = 0
 most_of (i ∷ is) = most i + most_of is
 
-abbrev pub StepsAs : List ℕ → ℕ → Front → Item → Step → Type 0
+abbrev pub StepsAs : List ℕ → ℕ → Front → Item → Option Step → Type 0
 StepsAs line at front i = Steps line at (read_item front i) (effect i) (most i)
 
--- an item's effect after what was gathered
-abbrev pub joined_by : Operation → ℕ → ℕ → ℕ → Operation
-joined_by o adds k from =
-    record { cluster = o.cluster; bits = o.bits + adds; field = pick (eqb o.field 0) k o.field; from = pick (eqb o.field 0) from o.from }
+-- an item's effect after what was gathered; the first expression counts
+abbrev pub joined_by : Operation → Step → Operation
+joined_by o s = record { cluster = o.cluster; bits = o.bits + s.adds; asks = option_or o.asks s.asks }
 
 -- what more operands say after what was gathered
 abbrev pub sums : Said → List Item → List Operand → Said
@@ -151,7 +141,7 @@ sums s is os = record { cluster = s.cluster; bits = s.bits + bits is os; asks = 
 abbrev pub said_from : ℕ → ℕ → List Item → List Operand → Said
 said_from cluster base is os = record { cluster = cluster; bits = base + bits is os; asks = asked_of is os }
 
-abbrev pub Gathered : List ℕ → ℕ → ℕ → Parsed → Type 0
-Gathered line at cluster parsed.Not = Unit {0}
-Gathered line at cluster (parsed.At n o) =
-    (at ≤ n) × (n ≤ length line) × (o.from ≤ length line) × (o.cluster ≡ cluster) × (o.field < 6) × (o.bits + breadth o.field ≤ 2 ^ 30)
+abbrev pub Gathered : List ℕ → ℕ → ℕ → Option (ℕ × Operation) → Type 0
+Gathered line at cluster None = Unit {0}
+Gathered line at cluster (Some p) =
+    (at ≤ p.0) × (p.0 ≤ length line) × Begins line p.1.asks × (p.1.cluster ≡ cluster) × (p.1.bits + breadth p.1.asks ≤ 2 ^ 30)

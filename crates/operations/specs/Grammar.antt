@@ -1,6 +1,5 @@
 -- The grammar of operations, written down without a reader: trees, and how a tree is spelt.
-use Rattle.std.specs.Prelude.{◌≡◌, List, [], ◌∷◌, ◌++◌, ℕ, ◌+◌, ◌/◌, ◌%◌, ◌<◌, ltb, length}
-use Rattle.std.proofs.Math.Option.{Option, none, some}
+use Rattle.std.specs.Prelude.{◌≡◌, List, [], ◌∷◌, ◌++◌, ℕ, ◌+◌, ◌/◌, ◌%◌, ◌<◌, ltb, length, Option, Some, None}
 use Rattle.word.specs.Choice.{pick}
 use Rattle.tokens.specs.Tokens.{Token, Word, Mark, letters}
 use Rattle.expressions.specs.Grammar.{Expression, spell_e, FitsE}
@@ -45,8 +44,8 @@ pub data Fits (front : Front) : Item → Operand → Type 0 where
   branch_fits : {p n : ℕ} → n < 8 → Fits front (branch p) (register b front.cluster n)
   general_either : {n : ℕ} → n < 64 → Fits front either (register r front.cluster n)
   branch_either : {n : ℕ} → n < 8 → Fits front either (register b front.cluster n)
-  far_fits : {c n : ℕ} → front.from ≡ none → c < 4 → n < 64 → Fits front far (register r c n)
-  named_fits : {c n : ℕ} → front.from ≡ some c → n < 64 → Fits front far (register r c n)
+  far_fits : {c n : ℕ} → front.from ≡ None → c < 4 → n < 64 → Fits front far (register r c n)
+  named_fits : {c n : ℕ} → front.from ≡ Some c → n < 64 → Fits front far (register r c n)
   general_source : {n : ℕ} → n < 64 → Fits front source (register r front.cluster n)
   immediate_fits : {e : Expression} → FitsE e 16 → Fits front source (value e)
   field_fits : {f : Field} {e : Expression} → FitsE e 16 → Fits front (field f) (value e)
@@ -63,8 +62,8 @@ pub record Operation : Type 0 where
 
 -- a second cluster stands in front of mov, and of nothing else
 abbrev pub FrontFits : ℕ → Option ℕ → Type 0
-FrontFits row none = row ≡ moves → ⊥
-FrontFits row (some c) = (row ≡ moves) × (c < 4)
+FrontFits row None = row ≡ moves → ⊥
+FrontFits row (Some c) = (row ≡ moves) × (c < 4)
 
 pub record FitsOperation (o : Operation) : Type 0 where
   pub cluster : o.front.cluster < 4
@@ -73,8 +72,8 @@ pub record FitsOperation (o : Operation) : Type 0 where
   pub operands : FitAll o.front (row_at o.row).items o.operands
 
 abbrev pub spell_from : Option ℕ → List Token
-spell_from none = []
-spell_from (some c) = Mark 61 ∷ Word (cluster_word c) ∷ []
+spell_from None = []
+spell_from (Some c) = Mark 61 ∷ Word (cluster_word c) ∷ []
 
 abbrev pub spell_operand : Operand → List Token
 spell_operand nothing = []

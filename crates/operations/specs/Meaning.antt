@@ -1,15 +1,13 @@
 -- What an operation says: its cluster, the bits of its syllable that name, number and registers fill, and the expression that fills the rest.
-use Rattle.std.specs.Prelude.{Bool, true, false, ◌&&◌, List, [], ◌∷◌, ℕ, ◌+◌, ◌*◌, ◌%◌, ◌^◌, eqb, leb, ltb}
+use Rattle.std.specs.Prelude.{Bool, true, false, ◌&&◌, List, [], ◌∷◌, ℕ, ◌+◌, ◌*◌, ◌%◌, ◌^◌, eqb, leb, ltb, Result, Ok, Err}
 use Rattle.word.specs.Choice.{pick}
-use Rattle.values.specs.Values.{half}
-use Rattle.values.specs.declared.Value.{Value}
-use Rattle.values.specs.declared.Value.TheVariants as value
+use Rattle.values.specs.Values.{Value, half}
+use Rattle.values.specs.declared.Fault.{Fault}
+use Rattle.values.specs.declared.Fault.TheVariants.{Outside}
 use Rattle.expressions.specs.Grammar.{Expression}
 use Rattle.expressions.specs.Meaning.{value_e}
 use Rattle.operations.specs.Table.{Field, immediate, Item, mark, link, general, branch, either, far, source, field, row_at}
 use Rattle.operations.specs.Grammar.{Operand, nothing, register, value, Operation, b}
-use Rattle.operations.specs.declared.Syllable.{Syllable}
-use Rattle.operations.specs.declared.Syllable.TheVariants.{Is, Missing, Outside}
 
 abbrev pub letter_of : Operand → ℕ
 letter_of nothing = 0
@@ -89,16 +87,19 @@ said o =
     let row = row_at o.row in
     record { cluster = o.front.cluster; bits = row.base + bits row.items o.operands; asks = asked_of row.items o.operands }
 
--- "So is a value outside its field": the low bits of a value inside it. `Is n` is the whole number n - 2^31
+-- a syllable without bits 31 and 30, or why there is none
+abbrev pub Syllable : Type 0
+Syllable = Result ℕ Fault
+
+-- "So is a value outside its field": the low bits of a value inside it. `Ok n` is the whole number n - 2^31
 abbrev pub in_field : ℕ → Field → Value → Syllable
-in_field bits f (value.Is n) = pick (leb half (n + f.below) && ltb (n + f.below) (half + 2 ^ f.width)) (Is (bits + n % 2 ^ f.width)) Outside
-in_field bits f value.Missing = Missing
-in_field bits f value.Outside = Outside
+in_field bits f (Ok n) = pick (leb half (n + f.below) && ltb (n + f.below) (half + 2 ^ f.width)) (Ok (bits + n % 2 ^ f.width)) (Err Outside)
+in_field bits f (Err w) = Err w
 
 abbrev pub filled : (List ℕ → Value) → ℕ → Asked → Syllable
-filled env bits none = Is bits
+filled env bits none = Ok bits
 filled env bits (asked f e) = in_field bits f (value_e env e)
 
--- the syllable of an operation, without bits 31 and 30
+-- the syllable of an operation
 abbrev pub syllable_of : (List ℕ → Value) → Said → Syllable
 syllable_of env s = filled env s.bits s.asks

@@ -8,24 +8,28 @@ ghost use Rattle.operations.specs.Meaning.{said};
 ghost use Rattle.tokens.specs.Reading.{next_tokens};
 ghost use Rattle.operations.specs.Reader.{fronted, read_after, read_moved, read_operation};
 ghost use Rattle.operations.specs.Parsed.{told, Kept};
-ghost use Rattle.operations.specs.Code.{text, from_of, front_of, Gathered};
+ghost use Rattle.operations.specs.Code.{text, front_of, Gathered};
 ghost use Rattle.operations.specs.Promise.{Unique, Exact};
 
 use crate::items::operands;
 use crate::words::{base_of, cluster_at, row_of};
 use tokens::{Next, token_at};
+use values::Fault;
 
 mod items; // items.rt: what stands after a name
 mod words; // words.rt: clusters, registers, names
 
-// The syllable of an operation, without bits 31 and 30.
-#[derive(Clone, Copy)]
-pub enum Syllable {
-    Is(u32),
-    // 19: a label that no line gives
-    Missing,
-    // 20: a value outside the range or its field
-    Outside,
+// The syllable of an operation, without bits 31 and 30. A value outside its field is outside too.
+pub type Syllable = Result<u32, Fault>;
+
+// The field of an expression; a target's is goto's, that of br and brf, or call's.
+#[derive(Clone, Copy, PartialEq, Eq)]
+pub enum Field {
+    Immediate,
+    Offset,
+    Goto,
+    Branch,
+    Call,
 }
 
 #[derive(Clone, Copy)]
@@ -33,55 +37,37 @@ pub struct Operation {
     pub cluster: u32,
     // what name and registers fill
     pub bits: u32,
-    // the expression's field, 0 where there is none: 1 an immediate, 2 an offset, 3 goto's target, 4 br's and brf's, 5 call's
-    pub field: u32,
-    // where the expression begins
-    pub from: usize,
-}
-
-// A register's word: letter, cluster, number.
-#[derive(Clone, Copy)]
-pub enum Register {
-    Not,
-    Is(u8, u32, u32),
-}
-
-// A cluster, and the place after it.
-#[derive(Clone, Copy)]
-pub enum Numbered {
-    Not,
-    At(usize, u32),
-}
-
-// A register at a place: the place after it, letter, cluster, number.
-#[derive(Clone, Copy)]
-pub enum Named {
-    Not,
-    At(usize, u8, u32, u32),
-}
-
-// An item at a place: the place after it, what it adds to the bits, its field and where its expression begins.
-#[derive(Clone, Copy)]
-pub enum Step {
-    Bad,
-    At(usize, u32, u32, usize),
+    // the expression's field, and where it begins
+    pub asks: Option<(Field, usize)>,
 }
 
 #[derive(Clone, Copy)]
-pub enum Parsed {
-    Not,
-    // the place after it
-    At(usize, Operation),
+pub struct Register {
+    pub letter: u8,
+    pub cluster: u32,
+    pub number: u32,
 }
 
-// Whether a second cluster stands in front of mov, and of nothing else: 4 is none.
-fn is_fronted(row: usize, second: u32) -> bool
-    ensures { result ≡ fronted row (from_of second) }
+// An item at a place: the place after it, what it adds to the bits, its expression.
+#[derive(Clone, Copy)]
+pub struct Step {
+    pub to: usize,
+    pub adds: u32,
+    pub asks: Option<(Field, usize)>,
+}
+
+// The operation's cluster, and the second one of "c1=c0".
+#[derive(Clone, Copy)]
+pub struct Front {
+    pub cluster: u32,
+    pub from: Option<u32>,
+}
+
+// Whether a second cluster stands in front of mov, and of nothing else.
+fn is_fronted(row: usize, from: Option<u32>) -> bool
+    ensures { result ≡ fronted row from }
 {
-    if row == 57 {
-        return second != 4;
-    }
-    second == 4
+    from.is_some() == (row == 57)
 }
 
 // The operation whose name stands from `start` to `at`, by the code's table.
@@ -90,30 +76,26 @@ fn looked_up(
     line: &[u8],
     start: usize,
     at: usize,
-    cluster: u32,
-    second: u32,
-) -> Parsed
+    front: Front,
+) -> Option<(usize, Operation)>
     requires { (table.now ≡ text) × (start ≤ at) × (at ≤ length line.now) }
-    ensures { (told line.now result ≡ map_got said (read_after (front_of cluster second) (next_tokens line.now (Next.Word start at))))
-        × Gathered line.now at cluster result }
+    ensures { (told line.now result ≡ map_got said (read_after (front_of front.cluster front.from) (next_tokens line.now (Next.Word start at))))
+        × Gathered line.now at front.cluster result }
 {
-    let row = row_of(table, &line[start..at]);
-    if row == 58 {
-        return Parsed::Not;
-    }
-    if !is_fronted(row, second) {
-        return Parsed::Not;
+    let row = row_of(table, &line[start..at])?;
+    if !is_fronted(row, front.from) {
+        return None;
     }
     let first = row * 16 + 7;
     let last = first + 9;
-    operands(line, at, cluster, second, &table[first..last], base_of(row))
+    operands(line, at, front, &table[first..last], base_of(row))
 }
 
 // The table has 16 bytes a row: a name, and from byte 7 on the letters of its items.
-fn by_name(line: &[u8], start: usize, at: usize, cluster: u32, second: u32) -> Parsed
+fn by_name(line: &[u8], start: usize, at: usize, front: Front) -> Option<(usize, Operation)>
     requires { (start ≤ at) × (at ≤ length line.now) }
-    ensures { (told line.now result ≡ map_got said (read_after (front_of cluster second) (next_tokens line.now (Next.Word start at))))
-        × Gathered line.now at cluster result }
+    ensures { (told line.now result ≡ map_got said (read_after (front_of front.cluster front.from) (next_tokens line.now (Next.Word start at))))
+        × Gathered line.now at front.cluster result }
 {
     looked_up(
         b"nop             stop            call   l=k      return l        \
@@ -134,43 +116,47 @@ fn by_name(line: &[u8], start: usize, at: usize, cluster: u32, second: u32) -> P
         line,
         start,
         at,
-        cluster,
-        second,
+        front,
     )
 }
 
 // After "c1=": the second cluster and the name.
-fn moved(line: &[u8], at: usize, cluster: u32) -> Parsed
+fn moved(line: &[u8], at: usize, cluster: u32) -> Option<(usize, Operation)>
     requires { at ≤ length line.now }
     ensures { (told line.now result ≡ map_got said (read_moved cluster (tokens (drop at line.now)))) × Gathered line.now at cluster result }
 {
-    match cluster_at(line, at) {
-        Numbered::Not => Parsed::Not,
-        Numbered::At(n, second) => match token_at(line, n) {
-            Next::End => Parsed::Not,
-            Next::Word(from, to) => by_name(line, from, to, cluster, second),
-            Next::Mark(_, _) => Parsed::Not,
-        },
-    }
+    let (n, second) = cluster_at(line, at)?;
+    let Next::Word(start, end) = token_at(line, n) else {
+        return None;
+    };
+    let front = Front {
+        cluster,
+        from: Some(second),
+    };
+    by_name(line, start, end, front)
 }
 
-// The operation that begins at `at`.
-pub fn parse(line: &[u8], at: usize) -> Parsed
+// The operation that begins at `at`, and the place after it.
+pub fn parse(line: &[u8], at: usize) -> Option<(usize, Operation)>
     requires { at ≤ length line.now }
     ensures { (told line.now result ≡ map_got said (read_operation (tokens (drop at line.now)))) × Kept line.now at result }
 {
-    match cluster_at(line, at) {
-        Numbered::Not => Parsed::Not,
-        Numbered::At(n, c) => match token_at(line, n) {
-            Next::End => Parsed::Not,
-            Next::Word(from, to) => by_name(line, from, to, c, 4),
-            Next::Mark(b, m) => {
-                if b == b'=' {
-                    return moved(line, m, c);
-                }
-                Parsed::Not
+    let (n, cluster) = cluster_at(line, at)?;
+    match token_at(line, n) {
+        Next::End => None,
+        Next::Word(start, end) => {
+            let front = Front {
+                cluster,
+                from: None,
+            };
+            by_name(line, start, end, front)
+        }
+        Next::Mark(b, m) => {
+            if b != b'=' {
+                return None;
             }
-        },
+            moved(line, m, cluster)
+        }
     }
 }
 

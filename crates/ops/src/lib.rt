@@ -4,9 +4,7 @@
 ghost use Rattle.std.specs.Prelude.{◌≡◌};
 ghost use Rattle.ops.specs.Value.{value};
 
-mod choice;
 mod compare;
-mod extend;
 mod logic;
 mod memory;
 mod multiply;
@@ -16,11 +14,13 @@ mod sum;
 
 pub use memory::{address, loaded, stored};
 pub use sum::carry;
+use word::field::{low, widen};
 
 // The value of the operation `opcode` for s1, s2 and the branch register b; 0 where the opcode has none.
 pub fn value(opcode: u32, s1: u32, s2: u32, b: u32) -> u32
     ensures { result ≡ value opcode s1 s2 b }
 {
+    // by number: an opcode is a field of the syllable, and the table's rows go by it
     match opcode {
         1 => sum::add(s1, s2),
         2 => sum::sub(s1, s2),
@@ -32,18 +32,18 @@ pub fn value(opcode: u32, s1: u32, s2: u32, b: u32) -> u32
         8 => shift::shl(s1, s2),
         9 => shift::shr(s1, s2),
         10 => shift::shru(s1, s2),
-        11 => sum::sh1add(s1, s2),
-        12 => sum::sh2add(s1, s2),
-        13 => sum::sh3add(s1, s2),
-        14 => sum::sh4add(s1, s2),
+        11 => sum::shift_add::<1>(s1, s2),
+        12 => sum::shift_add::<2>(s1, s2),
+        13 => sum::shift_add::<3>(s1, s2),
+        14 => sum::shift_add::<4>(s1, s2),
         15 => compare::max(s1, s2),
         16 => compare::maxu(s1, s2),
         17 => compare::min(s1, s2),
         18 => compare::minu(s1, s2),
-        19 => extend::sxtb(s1),
-        20 => extend::sxth(s1),
-        21 => extend::zxtb(s1),
-        22 => extend::zxth(s1),
+        19 => widen::<8>(s1),
+        20 => widen::<16>(s1),
+        21 => low::<8>(s1),
+        22 => low::<16>(s1),
         23 => sum::addcg(s1, s2, b),
         24 => multiply::mpyll(s1, s2),
         25 => multiply::mpyllu(s1, s2),

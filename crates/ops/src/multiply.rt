@@ -1,16 +1,9 @@
 // Opcodes 24 to 29: 16-bit halves, the first letter for s1, signed unless u.
+// Six of one line: one function for the three pairs of halves would take the pair as shifts, 0 and 16, and lose the names.
 ghost use Rattle.std.specs.Prelude.{◌≡◌, ◌*◌, ◌^◌, ◌<◌};
 ghost use Rattle.meanings.specs.Value.{row};
-ghost use Rattle.meanings.specs.Arith.{wrap};
 
-use crate::extend::sxth;
-
-// The low 32 bits of a product.
-fn product(x: u32, y: u32) -> u32
-    ensures { result ≡ wrap (x * y) }
-{
-    (x as u64 * y as u64 % 0x1_0000_0000) as u32
-}
+use word::field::{low, widen};
 
 // The product of two halves, which has at most 32 bits.
 fn whole(x: u32, y: u32) -> u32
@@ -23,31 +16,31 @@ fn whole(x: u32, y: u32) -> u32
 pub fn mpyll(s1: u32, s2: u32) -> u32
     ensures { result ≡ row 24 s1 s2 0 }
 {
-    product(sxth(s1), sxth(s2))
+    widen::<16>(s1).wrapping_mul(widen::<16>(s2))
 }
 
 pub fn mpyllu(s1: u32, s2: u32) -> u32
     ensures { result ≡ row 25 s1 s2 0 }
 {
-    whole(s1 % 0x1_0000, s2 % 0x1_0000)
+    whole(low::<16>(s1), low::<16>(s2))
 }
 
 pub fn mpylh(s1: u32, s2: u32) -> u32
     ensures { result ≡ row 26 s1 s2 0 }
 {
-    product(sxth(s1), sxth(s2 >> 16))
+    widen::<16>(s1).wrapping_mul(widen::<16>(s2 >> 16))
 }
 
 pub fn mpylhu(s1: u32, s2: u32) -> u32
     ensures { result ≡ row 27 s1 s2 0 }
 {
-    whole(s1 % 0x1_0000, s2 >> 16)
+    whole(low::<16>(s1), s2 >> 16)
 }
 
 pub fn mpyhh(s1: u32, s2: u32) -> u32
     ensures { result ≡ row 28 s1 s2 0 }
 {
-    product(sxth(s1 >> 16), sxth(s2 >> 16))
+    widen::<16>(s1 >> 16).wrapping_mul(widen::<16>(s2 >> 16))
 }
 
 pub fn mpyhhu(s1: u32, s2: u32) -> u32

@@ -2,16 +2,14 @@
 ghost use Rattle.std.specs.Prelude.{◌≡◌};
 ghost use Rattle.meanings.specs.Value.{row};
 
-use crate::choice::choose;
-
 pub fn slct(s1: u32, s2: u32, b: u32) -> u32
     ensures { result ≡ row 50 s1 s2 b }
 {
-    choose(b == 1, s1, s2)
+    if b == 1 { s1 } else { s2 }
 }
 
 pub fn slctf(s1: u32, s2: u32, b: u32) -> u32
     ensures { result ≡ row 51 s1 s2 b }
 {
-    choose(b == 1, s2, s1)
+    if b == 1 { s2 } else { s1 }
 }

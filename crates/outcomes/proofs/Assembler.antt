@@ -1,6 +1,7 @@
 -- Written by tests/public. Two outcomes that meet an equation are equal.
 use mathlib.Core.Path.{◌∙◌, sym}
 use Rattle.outcomes.specs.Assembler.{Assembler}
+use Rattle.outcomes.proofs.ByHand.{assembler_judge_one}
 
 pub assembler : Assembler
 assembler = record {
@@ -9,5 +10,7 @@ assembler = record {
     program = ((p ∙ sym q) i).program;
     room = ((p ∙ sym q) i).room;
   };
-  judge_one = λ _ _ _ _ _ _ _ p q. p.0 ∙ sym q.0;
+  wrong_number_one = λ _ _ _ p q. p ∙ sym q;
+  judge_one = assembler_judge_one;
+  wrong_from_fault_one = λ _ _ _ p q. p ∙ sym q;
 }

@@ -2,12 +2,13 @@
 use mathlib.Core.Path.{◌≡◌, refl, sym, ap, ◌∙◌}
 use mathlib.Core.Logic.{⊎_elim}
 use mathlib.Core.Bool.{Bool, true, false}
-use mathlib.Core.List.{List, [], ◌∷◌, map}
+use mathlib.Core.List.{List, [], ◌∷◌, ◌++◌, map}
 use Prim.Native.Nat.{ℕ, ◌+◌, ◌^◌, ◌≤◌, ◌<◌}
 use native.Mathlib.Nat.{eq-or-lt_of_le}
 use native.Mathlib.Omega.{arith}
-use lib.ListN.{length, get_or, take}
+use lib.ListN.{length, get_or, set, take}
 use lib.Seq.{length-take-le}
+use Rattle.std.proofs.lemmas.List.{ext_get_or}
 use Rattle.word.specs.Bytes.{words}
 use Rattle.vliw.specs.Run.{run}
 use Rattle.vliw.specs.Machine.{in_order, step}
@@ -20,25 +21,42 @@ use Rattle.isa.specs.declared.Nexts.TheVariants.{Nowhere, One, Two}
 use Rattle.isa.specs.declared.Op.{Op}
 use Rattle.isa.specs.declared.Place.{Place}
 use Rattle.isa.specs.declared.Table.{Table}
-use Rattle.schedule.specs.Rule.{Says}
+use Rattle.reach.specs.declared.Near.{Near}
+use Rattle.reach.specs.Near.{Reaches}
+use Rattle.reach.specs.Nexts.{nexts_at}
+use Rattle.reach.proofs.Once.{one_list}
+use Rattle.schedule.specs.Rule.{Verdict, Says}
 use Rattle.schedule.specs.Answer.{Checks}
-use Rattle.schedule.specs.declared.Verdict.{Verdict}
 use Rattle.schedule.proofs.Once.{one_verdict, one_outcome}
 use Rattle.source.specs.Grammar.{lines_of}
 use Rattle.source.specs.Walk.{refused, step as step_by}
-use Rattle.source.specs.Seek.{Cut, heard_in, walk_of}
+use Rattle.source.specs.Seek.{Cut, heard_in, walk_of, operates}
 use Rattle.source.specs.declared.reading.Line.{Line}
 use Rattle.source.specs.declared.walking.Walk.{Walk}
-use Rattle.memory.specs.Memory.{any_share}
-use Rattle.memory.specs.Held.{stores_in}
+use Rattle.std.specs.Prelude.{Result, Ok, Err}
+use Rattle.source.specs.Reader.{hear_all}
+use Rattle.evaluation.specs.declared.labels.Labels.{Labels}
+use Rattle.assembler.specs.Faults.{Verdict as Text, Sound, Fault, verdict}
+use Rattle.assembler.specs.Passes.{number_of_wrong, verdict_in, Within}
+use Rattle.assembler.specs.declared.judging.Wrong.{Wrong}
+use Rattle.assembler.specs.declared.judging.Wrong.TheVariants as wrong
+use Rattle.assembler.specs.declared.judging.LowestFault.{LowestFault}
 use Rattle.machine.specs.Image.{place_in, registers_in, link_in}
 use Rattle.machine.specs.Link.{memory_of, change}
 use Rattle.machine.specs.Instruction.{instruction_of}
-use Rattle.machine.specs.State.{registers_of, Sized}
+use Rattle.vliw.specs.Cell.{at, still}
+use Rattle.machine.specs.State.{cell_of, registers_of, Sized}
+use Rattle.machine.specs.declared.Cell.{Cell as Kept}
+use Rattle.machine.proofs.Arrays.{registers_of_length}
 use Rattle.machine.specs.declared.State.{State}
-use Rattle.ticks.specs.Ticks.{views, latest}
+use Rattle.ticks.specs.Ticks.{views, latest, ready_ticks}
+use Rattle.ticks.specs.declared.Registers.{Registers}
+use Rattle.gather.specs.Scratch.{Scratch}
+use Rattle.loader.specs.declared.Answer.{Answer}
 use Rattle.run.specs.Loop.{Returned}
 use Rattle.run.specs.declared.Left.{Left}
+use Rattle.text.specs.Rows.{field, fields, answer_row}
+use Rattle.arrayvec.specs.ArrayVec.{ArrayVec, array_vec_len}
 use Rattle.outcomes.specs.OneOutcome.{OneOutcome}
 use Rattle.outcomes.proofs.States.{place_is, state_is}
 
@@ -93,28 +111,78 @@ source_is_refused_one w l a b p q = p [] ∙ sym (q [])
 -- the code's walk is the definition's, field by field
 pub source_step_one : (w : Walk) (l : Line)
     → OneOutcome (λ (r : Walk). ((line : List ℕ) → walk_of r ≡ step_by (walk_of w) (heard_in line l)) × (w.count ≤ r.count) × (r.count ≤ w.count + 4)
-    × (l.operates ≡ false → r.count ≡ w.count))
+    × (operates l ≡ false → r.count ≡ w.count))
 source_step_one w l a b p q =
     let e : walk_of a ≡ walk_of b = p.0 [] ∙ sym (q.0 []) in
     λ i. record { count = (e i).count; opened = (e i).opened }
 
--- the values do not matter, so take none
-pub memory_shared_one : (offsets sizes : List ℕ) (count : ℕ) → OneOutcome (λ (r : Bool). ((vs : List ℕ) → r ≡ any_share (stores_in offsets vs sizes count)))
-memory_shared_one offsets sizes count a b p q = p [] ∙ sym (q [])
+-- the code's verdict is the definition's, number by number
+wrong_is : (a b : Wrong) → number_of_wrong a ≡ number_of_wrong b → a ≡ b
+wrong_is wrong.Line wrong.Line e = refl
+wrong_is wrong.Line wrong.Label e = absurd (omega arith)
+wrong_is wrong.Line wrong.Value e = absurd (omega arith)
+wrong_is wrong.Label wrong.Line e = absurd (omega arith)
+wrong_is wrong.Label wrong.Label e = refl
+wrong_is wrong.Label wrong.Value e = absurd (omega arith)
+wrong_is wrong.Value wrong.Line e = absurd (omega arith)
+wrong_is wrong.Value wrong.Label e = absurd (omega arith)
+wrong_is wrong.Value wrong.Value e = refl
+
+-- syllables; or the number, and the line
+numbers_of : Text → List ℕ
+numbers_of (Sound n) = n ∷ []
+numbers_of (Fault i k) = k ∷ i ∷ []
+
+verdict_is : (a b : Result ℕ LowestFault) → verdict_in a ≡ verdict_in b → a ≡ b
+unfolding numbers_of
+verdict_is (Ok n) (Ok m) e = ap Ok (ap (λ v. get_or (numbers_of v) 0 0) e)
+verdict_is (Ok n) (Err g) e = absurd (omega (arith, ap (λ v. length (numbers_of v)) e))
+verdict_is (Err f) (Ok m) e = absurd (omega (arith, ap (λ v. length (numbers_of v)) e))
+verdict_is (Err f) (Err g) e =
+    let line : f.line ≡ g.line = ap (λ v. get_or (numbers_of v) 1 0) e in
+    let is_wrong : f.wrong ≡ g.wrong = wrong_is f.wrong g.wrong (ap (λ v. get_or (numbers_of v) 0 0) e) in
+    λ i. Err (record { line = line i; wrong = is_wrong i })
+
+pub assembler_judge_one : (labels : Labels)
+    → OneOutcome (λ (r : Result ℕ LowestFault). (verdict_in r ≡ verdict (hear_all labels.text.now)) × Within (length labels.text.now) (verdict_in r))
+assembler_judge_one labels a b p q = verdict_is a b (p.0 ∙ sym q.0)
 
 -- a state is its place, its registers and its link
 pub machine_read_one : (image : List ℕ)
     → OneOutcome (λ (r : State). Sized r × ((r.place.0 ≡ place_in image) × (registers_of r ≡ registers_in image) × (r.link.0 ≡ link_in image)))
 machine_read_one image a b p q = state_is p.0 q.0 (p.1.1 ∙ sym q.1.1) (p.1.0 ∙ sym q.1.0) (p.1.2 ∙ sym q.1.2)
 
-pub ticks_leave_one : (value old ready land : List ℕ) (t : Count) (place link : Place)
-    → OneOutcome (λ (s : State). Sized s × ((s.place ≡ place) × (s.link ≡ link)) × (registers_of s ≡ views t.0 value old ready land))
-ticks_leave_one value old ready land t place link a b p q =
+pub machine_state_put_one : (self : State) (r : ℕ) (c : Kept)
+    → OneOutcome (λ (s : State). Sized s × ((s.place ≡ self.place) × (s.link ≡ self.link)) × (registers_of s ≡ set (registers_of self) r (cell_of c)))
+machine_state_put_one self r c a b p q =
+    state_is p.0 q.0 (p.2 ∙ sym q.2) (ap (λ (x : Place). x.0) (p.1.0 ∙ sym q.1.0)) (ap (λ (x : Place). x.0) (p.1.1 ∙ sym q.1.1))
+
+pub machine_state_still_one : (place link : Place)
+    → OneOutcome (λ (s : State). Sized s × ((s.place ≡ place) × (s.link ≡ link)) × ((r : ℕ) → r < 288 → at (registers_of s) r ≡ still))
+machine_state_still_one place link a b p q =
+    let n : length (registers_of a) ≡ 288 = registers_of_length p.0 in
+    let same : registers_of a ≡ registers_of b =
+    ext_get_or still (registers_of a) (registers_of b) (n ∙ sym (registers_of_length q.0)) (λ r k. p.2 r (omega (arith, k, n)) ∙ sym (q.2 r (omega (arith, k, n)))) in
+    state_is p.0 q.0 same (ap (λ (x : Place). x.0) (p.1.0 ∙ sym q.1.0)) (ap (λ (x : Place). x.0) (p.1.1 ∙ sym q.1.1))
+
+-- a register is its four numbers
+pub machine_state_register_one : (self : State) (r : ℕ) → OneOutcome (λ (s : Kept). cell_of s ≡ at (registers_of self) r)
+machine_state_register_one self r a b p q =
+    let e : cell_of a ≡ cell_of b = p ∙ sym q in
+    λ i. record { value = (e i).value; waiting = (e i).waiting; busy = (e i).busy; landing = (e i).landing }
+
+pub ticks_registers_leave_one : (self : Registers) (t : Count) (place link : Place)
+    → OneOutcome (λ (s : State). Sized s × ((s.place ≡ place) × (s.link ≡ link)) × (registers_of s ≡ views t.0 self.all))
+ticks_registers_leave_one self t place link a b p q =
     state_is p.0 q.0 (p.2 ∙ sym q.2) (ap (λ (x : Place). x.0) (p.1.0 ∙ sym q.1.0)) (ap (λ (x : Place). x.0) (p.1.1 ∙ sym q.1.1))
 
 -- a count is its number
-pub ticks_free_from_one : (ready : List ℕ) → OneOutcome (λ (r : Count). r.0 ≡ latest 0 ready)
-ticks_free_from_one ready a b p q = λ i. record { 0 = (p ∙ sym q) i }
+pub ticks_registers_free_from_one : (self : Registers) → OneOutcome (λ (r : Count). r.0 ≡ latest 0 (ready_ticks self.all))
+ticks_registers_free_from_one self a b p q = λ i. record { 0 = (p ∙ sym q) i }
+
+-- scratch is its two lists
+pub gather_scratch_new_one : OneOutcome (λ (r : Scratch). (r.results ≡ []) × (r.stores ≡ []))
+gather_scratch_new_one a b p q = λ i. record { results = (p.0 ∙ sym q.0) i; stores = (p.1 ∙ sym q.1) i }
 
 -- what the machine's run leaves is what is returned
 pub run_run_one : (table : Table) (program memory landing : List ℕ) (n : Count) (s : State)
@@ -134,3 +202,20 @@ pub sandbox_vex_check_one : (table program room : List ℕ)
 sandbox_vex_check_one table program room a b p q =
     let e = one_outcome table program room _ _ p q in
     λ i. record { result = (e i).result; room = (e i).room }
+
+-- a vector is its elements
+pub text_put_field_one : (N : ℕ) (out : ArrayVec ℕ) (digits v after : ℕ)
+    → OneOutcome (λ (o : ArrayVec ℕ). (o.items ≡ out.items ++ field digits v after) × (array_vec_len o ≡ array_vec_len out + digits + 1))
+text_put_field_one N out digits v after a b p q = λ i. record { items = (p.0 ∙ sym q.0) i }
+
+pub text_put_fields_one : (N : ℕ) (out : ArrayVec ℕ) (x digits y z : ℕ)
+    → OneOutcome (λ (o : ArrayVec ℕ). (o.items ≡ out.items ++ fields x digits y z) × (array_vec_len o ≡ array_vec_len out + digits + 13))
+text_put_fields_one N out x digits y z a b p q = λ i. record { items = (p.0 ∙ sym q.0) i }
+
+pub text_put_answer_one : (N : ℕ) (out : ArrayVec ℕ) (a : Answer)
+    → OneOutcome (λ (o : ArrayVec ℕ). (o.items ≡ out.items ++ answer_row a) × (array_vec_len o ≡ array_vec_len out + 21))
+text_put_answer_one N out x a b p q = λ i. record { items = (p.0 ∙ sym q.0) i }
+
+pub reach_reach_one : (program : List ℕ) (p : Place) (most : ℕ) (near : ArrayVec Near)
+    → OneOutcome (λ (o : ArrayVec Near). Reaches (nexts_at (words program)) p.0 most o.items)
+reach_reach_one program p most near a b h k = λ i. record { items = one_list (nexts_at (words program)) p.0 most a.items b.items h k i }

@@ -4,5 +4,7 @@ use Rattle.outcomes.specs.Call.{Call}
 
 pub call : Call
 call = record {
-  of_reply_one = λ _ _ _ p q. p ∙ sym q;
+  unrun_from_refusal_one = λ _ _ _ p q. p ∙ sym q;
+  answer_from_ended_one = λ _ _ _ p q. p ∙ sym q;
+  answer_from_unrun_one = λ _ _ _ p q. p ∙ sym q;
 }

@@ -8,7 +8,9 @@ pub mod Tables
 pub mod Zero
 pub mod Refusals
 pub mod Loader
+pub mod Reach
 pub mod Schedule
+pub mod Lines
 pub mod Values
 pub mod Expressions
 pub mod Source
@@ -17,6 +19,7 @@ pub mod Assembler
 pub mod Memory
 pub mod Machine
 pub mod Ticks
+pub mod Gather
 pub mod Run
 pub mod Call
 pub mod Sandbox

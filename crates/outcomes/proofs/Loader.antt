@@ -7,7 +7,7 @@ loader = record {
   bad_program_length_one = λ _ _ _ p q. p ∙ sym q;
   load_one = λ _ _ _ _ _ p q. p ∙ sym q;
   load_with_one = λ _ _ _ _ _ p q. p ∙ sym q;
-  of_refusal_one = λ _ _ _ p q. p ∙ sym q;
-  of_load_one = λ _ _ _ p q. p ∙ sym q;
   write_one = λ _ _ _ _ p q. p ∙ sym q;
+  answer_from_refusal_one = λ _ _ _ p q. p ∙ sym q;
+  answer_from_result_refusal_one = λ _ _ _ p q. p ∙ sym q;
 }

@@ -8,7 +8,9 @@ use Rattle.outcomes.proofs.Tables.{tables}
 use Rattle.outcomes.proofs.Zero.{zero}
 use Rattle.outcomes.proofs.Refusals.{refusals}
 use Rattle.outcomes.proofs.Loader.{loader}
+use Rattle.outcomes.proofs.Reach.{reach}
 use Rattle.outcomes.proofs.Schedule.{schedule}
+use Rattle.outcomes.proofs.Lines.{lines}
 use Rattle.outcomes.proofs.Values.{values}
 use Rattle.outcomes.proofs.Expressions.{expressions}
 use Rattle.outcomes.proofs.Source.{source}
@@ -17,6 +19,7 @@ use Rattle.outcomes.proofs.Assembler.{assembler}
 use Rattle.outcomes.proofs.Memory.{memory}
 use Rattle.outcomes.proofs.Machine.{machine}
 use Rattle.outcomes.proofs.Ticks.{ticks}
+use Rattle.outcomes.proofs.Gather.{gather}
 use Rattle.outcomes.proofs.Run.{run}
 use Rattle.outcomes.proofs.Call.{call}
 use Rattle.outcomes.proofs.Sandbox.{sandbox}
@@ -32,7 +35,9 @@ public = record {
   zero = zero;
   refusals = refusals;
   loader = loader;
+  reach = reach;
   schedule = schedule;
+  lines = lines;
   values = values;
   expressions = expressions;
   source = source;
@@ -41,6 +46,7 @@ public = record {
   memory = memory;
   machine = machine;
   ticks = ticks;
+  gather = gather;
   run = run;
   call = call;
   sandbox = sandbox;

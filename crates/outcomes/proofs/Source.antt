@@ -5,10 +5,11 @@ use Rattle.outcomes.proofs.ByHand.{source_line_length_one, source_is_refused_one
 
 pub source : Source
 source = record {
+  line_operation_one = λ _ _ _ p q. p ∙ sym q;
+  read_line_gives_one = λ _ _ _ _ p q. p ∙ sym q;
   line_length_one = source_line_length_one;
   is_same_one = λ _ _ _ _ p q. p ∙ sym q;
-  gives_one = λ _ _ _ _ _ p q. p ∙ sym q;
+  search_one = λ _ _ _ _ _ _ p q. p ∙ sym q;
   is_refused_one = source_is_refused_one;
   step_one = source_step_one;
-  search_one = λ _ _ _ _ _ _ p q. p ∙ sym q;
 }

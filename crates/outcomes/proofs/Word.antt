@@ -10,4 +10,6 @@ word = record {
   put_byte_one = λ _ _ _ _ _ p q. p ∙ sym q;
   put_half_one = λ _ _ _ _ _ p q. p ∙ sym q;
   put_word_one = λ _ _ _ _ _ p q. p ∙ sym q;
+  low_one = λ _ _ _ _ p q. p ∙ sym q;
+  widen_one = λ _ _ _ _ p q. p ∙ sym q;
 }

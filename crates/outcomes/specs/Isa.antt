@@ -1,5 +1,5 @@
 -- Written by tests/public. The promise of each public function of isa admits one outcome only.
-use Rattle.std.specs.Prelude.{Bool, List, eqb, get_or, map, ℕ, ◌&&◌, ◌+◌, ◌-◌, ◌||◌, ◌≡◌}
+use Rattle.std.specs.Prelude.{Bool, List, Option, eqb, get_or, map, ℕ, ◌&&◌, ◌+◌, ◌-◌, ◌||◌, ◌≡◌}
 use Rattle.word.specs.Bytes.{words}
 use Rattle.word.specs.Choice.{bit}
 use Rattle.isa.specs.Control.{controls, is_control, leaves, reads_every, solitary, target_of, turn_of, way_of}
@@ -10,7 +10,6 @@ use Rattle.isa.specs.Touch.{delay_of, listed, nexts}
 use Rattle.isa.specs.declared.Delays.{Delays}
 use Rattle.isa.specs.declared.Destinations.{Destinations}
 use Rattle.isa.specs.declared.Format.{Format}
-use Rattle.isa.specs.declared.Found.{Found}
 use Rattle.isa.specs.declared.Nexts.{Nexts}
 use Rattle.isa.specs.declared.Op.{Op}
 use Rattle.isa.specs.declared.Place.{Place}
@@ -28,7 +27,7 @@ pub record Isa : Type 0 where
   pub way_one : (s : ℕ) → OneOutcome (λ (r : Way). r ≡ way_of s)
   pub controls_one : (w : Way) → OneOutcome (λ (r : Bool). r ≡ controls w)
   pub is_control_one : (s : ℕ) → OneOutcome (λ (r : Bool). r ≡ is_control s)
-  pub target_one : (w : Way) → OneOutcome (λ (r : Found). r ≡ target_of w)
+  pub target_one : (w : Way) → OneOutcome (λ (r : Option Place). r ≡ target_of w)
   pub solitary_one : (w : Way) → OneOutcome (λ (r : Bool). r ≡ solitary w)
   pub leaves_one : (w : Way) → OneOutcome (λ (r : Bool). r ≡ leaves w)
   pub reads_every_one : (w : Way) → OneOutcome (λ (r : Bool). r ≡ reads_every w)

@@ -7,7 +7,9 @@ pub mod Tables
 pub mod Zero
 pub mod Refusals
 pub mod Loader
+pub mod Reach
 pub mod Schedule
+pub mod Lines
 pub mod Values
 pub mod Expressions
 pub mod Source
@@ -16,6 +18,7 @@ pub mod Assembler
 pub mod Memory
 pub mod Machine
 pub mod Ticks
+pub mod Gather
 pub mod Run
 pub mod Call
 pub mod Sandbox

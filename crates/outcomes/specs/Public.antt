@@ -8,7 +8,9 @@ use Rattle.outcomes.specs.Tables.{Tables}
 use Rattle.outcomes.specs.Zero.{Zero}
 use Rattle.outcomes.specs.Refusals.{Refusals}
 use Rattle.outcomes.specs.Loader.{Loader}
+use Rattle.outcomes.specs.Reach.{Reach}
 use Rattle.outcomes.specs.Schedule.{Schedule}
+use Rattle.outcomes.specs.Lines.{Lines}
 use Rattle.outcomes.specs.Values.{Values}
 use Rattle.outcomes.specs.Expressions.{Expressions}
 use Rattle.outcomes.specs.Source.{Source}
@@ -17,6 +19,7 @@ use Rattle.outcomes.specs.Assembler.{Assembler}
 use Rattle.outcomes.specs.Memory.{Memory}
 use Rattle.outcomes.specs.Machine.{Machine}
 use Rattle.outcomes.specs.Ticks.{Ticks}
+use Rattle.outcomes.specs.Gather.{Gather}
 use Rattle.outcomes.specs.Run.{Run}
 use Rattle.outcomes.specs.Call.{Call}
 use Rattle.outcomes.specs.Sandbox.{Sandbox}
@@ -31,7 +34,9 @@ pub record Public : Type 0 where
   pub zero : Zero
   pub refusals : Refusals
   pub loader : Loader
+  pub reach : Reach
   pub schedule : Schedule
+  pub lines : Lines
   pub values : Values
   pub expressions : Expressions
   pub source : Source
@@ -40,6 +45,7 @@ pub record Public : Type 0 where
   pub memory : Memory
   pub machine : Machine
   pub ticks : Ticks
+  pub gather : Gather
   pub run : Run
   pub call : Call
   pub sandbox : Sandbox

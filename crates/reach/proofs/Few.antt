@@ -22,7 +22,8 @@ use Rattle.isa.specs.declared.Way.{Way}
 use Rattle.isa.specs.declared.Way.TheVariants.{Along, Stop, Goto, Branch, Call, Return}
 use Rattle.isa.specs.declared.Op.{Op}
 use Rattle.reach.specs.Nexts.{nexts_at}
-use Rattle.reach.specs.Near.{Near, place_at, steps_at, Ordered}
+use Rattle.reach.specs.declared.Near.{Near}
+use Rattle.reach.specs.Near.{place_at, steps_at, Ordered}
 
 -- ---- ascending numbers that stand in a list are no more than the list has
 
@@ -93,10 +94,10 @@ module _ (next : ℕ → List ℕ) (two : (m : ℕ) → length (next m) ≤ 2) (
   upto_few zero = omega arith
   upto_few (suc n) = omega (arith, length-append (ends (suc n)) (upto n), ends_few (suc n), upto_few n, pow-succ' 2 (suc n))
 
-  few : {most : ℕ} (r : Near) → most ≤ 7 → Ordered r most
-      → ((i : ℕ) → i < r.count → (1 ≤ steps_at r i) × Reach next p (steps_at r i) (place_at r i)) → r.count ≤ 254
+  few : {most : ℕ} (r : List Near) → most ≤ 7 → Ordered r most
+      → ((i : ℕ) → i < length r → (1 ≤ steps_at r i) × Reach next p (steps_at r i) (place_at r i)) → length r ≤ 254
   few {most} r b o sound =
-      let h = no_more (place_at r) r.count (upto most) o.ascending (λ i l. upto_in most (sound i l).0 (o.low i l) (ends_in (steps_at r i) (sound i l).1)) in
+      let h = no_more (place_at r) (length r) (upto most) o.ascending (λ i l. upto_in most (sound i l).0 (o.low i l) (ends_in (steps_at r i) (sound i l).1)) in
       omega (arith, upto_few most, pow_mono {i = suc most} {j = 8} (omega arith))
 
 -- ---- an instruction has at most two nexts
@@ -113,6 +114,6 @@ at_most_two : (f : ℕ) (os : List Op) → length (nexts f os) ≤ 2
 at_most_two f [] = omega arith
 at_most_two f (o ∷ os) = by_way o.way f (nexts f os) (at_most_two f os)
 
-pub few_in : {most : ℕ} (p : List ℕ) (from : ℕ) (r : Near) → most ≤ 7 → Ordered r most
-    → ((i : ℕ) → i < r.count → (1 ≤ steps_at r i) × Reach (nexts_at p) from (steps_at r i) (place_at r i)) → r.count ≤ 254
+pub few_in : {most : ℕ} (p : List ℕ) (from : ℕ) (r : List Near) → most ≤ 7 → Ordered r most
+    → ((i : ℕ) → i < length r → (1 ≤ steps_at r i) × Reach (nexts_at p) from (steps_at r i) (place_at r i)) → length r ≤ 254
 few_in p from r = few (nexts_at p) (λ i. at_most_two (following p i) (operations_at p i)) from r

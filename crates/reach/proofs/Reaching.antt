@@ -6,16 +6,18 @@ use mathlib.Core.List.{List, Memᴰ}
 use Prim.Native.Nat.{ℕ, zero, suc, ◌≤◌, ◌<◌}
 use native.Mathlib.Nat.{le_refl, not-suc-le-zero, eq-or-lt_of_le, le_of_suc-le-suc}
 use native.Mathlib.Omega.{arith}
+use lib.ListN.{length}
 use Rattle.vliw.specs.Schedule.{Reach}
 use Rattle.isa.specs.Program.{is_start}
 use Rattle.reach.specs.Nexts.{nexts_at}
 use Rattle.reach.specs.Laid.{Laid}
-use Rattle.reach.specs.Near.{Near, place_at, steps_at, Ordered, Has, Joined, Reaches}
+use Rattle.reach.specs.declared.Near.{Near}
+use Rattle.reach.specs.Near.{place_at, steps_at, Ordered, Has, Joined, Reaches}
 
 -- what the old and the new places have, all have
-all_of : {ts : List ℕ} {k : ℕ} (r s : Near) → Joined ts k r s → (P : ℕ → ℕ → Type 0)
-    → ((i : ℕ) → i < r.count → P (steps_at r i) (place_at r i)) → ((t : ℕ) → Memᴰ t ts → P k t)
-    → (j : ℕ) → j < s.count → P (steps_at s j) (place_at s j)
+all_of : {ts : List ℕ} {k : ℕ} (r s : List Near) → Joined ts k r s → (P : ℕ → ℕ → Type 0)
+    → ((i : ℕ) → i < length r → P (steps_at r i) (place_at r i)) → ((t : ℕ) → Memᴰ t ts → P k t)
+    → (j : ℕ) → j < length s → P (steps_at s j) (place_at s j)
 all_of r s g P old new j l = ⊎_elim (λ n. rw n.1 (new _ n.0)) (λ o. rw (← o.3, ← o.4) (old o.0 o.2)) (g.each j l)
 
 pub reach_start : {p : List ℕ} → Laid p → (i : ℕ) → is_start p i ≡ true → (k q : ℕ) → Reach (nexts_at p) i k q → is_start p q ≡ true
@@ -26,7 +28,7 @@ module _ (nexts : ℕ → List ℕ) (p : ℕ) where
   abbrev Sound : ℕ → ℕ → Type 0
   Sound n q = (1 ≤ n) × Reach nexts p n q
 
-  pub first : {r s : Near} → r.count ≡ 0 → Joined (nexts p) 1 r s → Reaches nexts p 1 s
+  pub first : {r s : List Near} → length r ≡ 0 → Joined (nexts p) 1 r s → Reaches nexts p 1 s
   first {r} {s} e g =
       record {
         ordered = g.ordered;
@@ -40,19 +42,17 @@ module _ (nexts : ℕ → List ℕ) (p : ℕ) where
       by (suc (suc k)) q a b h = absurd (not-suc-le-zero (le_of_suc-le-suc b))
 
   -- of the places k nexts away, those below an index have had their nexts put in
-  pub record Widening (k i : ℕ) (r : Near) : Type 0 where
+  pub record Widening (k i : ℕ) (r : List Near) : Type 0 where
     pub ordered : Ordered r (suc k)
-    pub sound : (j : ℕ) → j < r.count → Sound (steps_at r j) (place_at r j)
+    pub sound : (j : ℕ) → j < length r → Sound (steps_at r j) (place_at r j)
     pub complete : (n q : ℕ) → 1 ≤ n → n ≤ k → Reach nexts p n q → Has r q n
-    pub done : (j : ℕ) → j < i → j < r.count → steps_at r j ≡ k → {t : ℕ} → Memᴰ t (nexts (place_at r j)) → Has r t (suc k)
+    pub done : (j : ℕ) → j < i → j < length r → steps_at r j ≡ k → {t : ℕ} → Memᴰ t (nexts (place_at r j)) → Has r t (suc k)
 
-  pub begin : {k : ℕ} (r : Near) → Reaches nexts p k r → Widening k 0 r
+  pub begin : {k : ℕ} (r : List Near) → Reaches nexts p k r → Widening k 0 r
   begin r h =
       record {
         ordered =
             record {
-              places = h.ordered.places;
-              steps = h.ordered.steps;
               few = h.ordered.few;
               ascending = h.ordered.ascending;
               low = λ i l. omega (arith, h.ordered.low i l);
@@ -62,7 +62,7 @@ module _ (nexts : ℕ → List ℕ) (p : ℕ) where
         done = λ j l. absurd (not-suc-le-zero l);
       }
 
-  pub passed_by : {k i : ℕ} (r : Near) → Widening k i r → (steps_at r i ≡ k → ⊥) → Widening k (suc i) r
+  pub passed_by : {k i : ℕ} (r : List Near) → Widening k i r → (steps_at r i ≡ k → ⊥) → Widening k (suc i) r
   passed_by {k} {i} r h n =
       record {
         ordered = h.ordered;
@@ -71,7 +71,7 @@ module _ (nexts : ℕ → List ℕ) (p : ℕ) where
         done = λ j l b e. ⊎_elim (λ (q : j ≡ i). absurd (n (rw (← q) e))) (λ c. h.done j c b e) (eq-or-lt_of_le (le_of_suc-le-suc l));
       }
 
-  pub widened : {k i : ℕ} (r s : Near) → Widening k i r → i < r.count → steps_at r i ≡ k → Joined (nexts (place_at r i)) (suc k) r s → Widening k (suc i) s
+  pub widened : {k i : ℕ} (r s : List Near) → Widening k i r → i < length r → steps_at r i ≡ k → Joined (nexts (place_at r i)) (suc k) r s → Widening k (suc i) s
   widened {k} {i} r s h l e g =
       record {
         ordered = g.ordered;
@@ -87,7 +87,7 @@ module _ (nexts : ℕ → List ℕ) (p : ℕ) where
             (g.each j b);
       }
 
-  pub ended : {k i : ℕ} (r : Near) → 1 ≤ k → Widening k i r → r.count ≤ i → Reaches nexts p (suc k) r
+  pub ended : {k i : ℕ} (r : List Near) → 1 ≤ k → Widening k i r → length r ≤ i → Reaches nexts p (suc k) r
   ended {k} {i} r a h b =
       record {
         ordered = h.ordered;

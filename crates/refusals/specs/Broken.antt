@@ -1,13 +1,12 @@
 -- Document 01, "Refusal numbers", 2 to 8: for each number, what breaks it at a place. A program is its syllables here.
-use Rattle.std.specs.Prelude.{Bool, false, not, ◌||◌, ◌&&◌, List, ℕ, suc, ◌%◌, eqb, ltb, leb, get_or, length}
+use Rattle.std.specs.Prelude.{Bool, false, not, ◌||◌, ◌&&◌, List, ℕ, suc, ◌%◌, eqb, ltb, leb, get_or, length, Option, Some, None}
 use Rattle.word.specs.Lists.{any, any_below, count, repeats}
 use Rattle.isa.specs.Syllable.{ends, opens, opcode, source, is_alu, is_mul, is_mem, is_copy}
 use Rattle.isa.specs.Control.{way_of, is_control, target_of, solitary, leaves}
 use Rattle.isa.specs.Program.{spot_at, cluster, is_start, instruction_at, following, operations_at}
 use Rattle.isa.specs.Touch.{destinations}
 use Rattle.isa.specs.declared.Spot.{Spot}
-use Rattle.isa.specs.declared.Found.{Found}
-use Rattle.isa.specs.declared.Found.TheVariants.{At, Nothing}
+use Rattle.isa.specs.declared.Place.{Place}
 use Rattle.isa.specs.declared.Table.{Table}
 use Rattle.zero.specs.Zero.{bad_bits}
 
@@ -72,9 +71,9 @@ two_writes_at program i = is_start program i && repeats (destinations (operation
 
 -- 8: "target is no instruction's first syllable; stop has company (a nop too); the last instruction has neither goto nor stop"; by order 1
 -- "call's target and return's company .. and the last instruction may also be a return, but not a call"
-abbrev pub misses : (ℕ → Bool) → Found → Bool
-misses starts Nothing = false
-misses starts (At target) = not (starts target.0)
+abbrev pub misses : (ℕ → Bool) → Option Place → Bool
+misses starts None = false
+misses starts (Some target) = not (starts target.0)
 
 abbrev pub alone : Spot → Bool
 alone x = x.first && x.last

@@ -11,16 +11,14 @@ use isa::control::{controls, leaves, solitary, target, way};
 use isa::program::is_start;
 use isa::stretch::{before_all, cut, next_spot};
 use isa::syllable::ends;
-use isa::{Found, Place, Slot, Spot};
+use isa::walk::spots;
+use isa::{Place, Spot};
 
 // A target is no instruction's first syllable.
-fn misses(program: &[u8], target: Found) -> bool
+fn misses(program: &[u8], target: Option<Place>) -> bool
     ensures { result ≡ misses (is_start (words program.now)) target }
 {
-    match target {
-        Found::Nothing => false,
-        Found::At(t) => !is_start(program, t),
-    }
+    target.is_some_and(|t| !is_start(program, t))
 }
 
 // A syllable is the whole of its instruction.
@@ -34,12 +32,7 @@ fn alone(x: Spot) -> bool
 fn any_leaves(stretch: &[u8]) -> bool
     ensures { result ≡ any leaving (spots (words stretch.now)) }
 {
-    for i in 0..stretch.len() / 4 {
-        if leaves(way(isa::stretch::syllable(stretch, Slot(i)))) {
-            return true;
-        }
-    }
-    false
+    spots(stretch).any(|x| leaves(way(x.syllable)))
 }
 
 // Where the last instruction starts.
@@ -47,12 +40,10 @@ fn last_start(program: &[u8]) -> Place
     requires { 0 < length (words program.now) }
     ensures { is_last (words program.now) result.0 ≡ true }
 {
-    let mut i = program.len() / 4 - 1;
-    while 0 < i {
+    for i in (1..program.len() / 4).rev() {
         if ends(isa::program::syllable(program, Place(i - 1))) {
             return Place(i);
         }
-        i -= 1;
     }
     Place(0)
 }
@@ -62,7 +53,7 @@ fn runs_out(program: &[u8], at: Place, last: Place) -> bool
     requires { is_last (words program.now) last.0 ≡ true }
     ensures { let p = words program.now in result ≡ (is_last p at.0 && not (any leaving (instruction_at p at.0))) }
 {
-    at.0 == last.0 && !any_leaves(cut(program, last))
+    at == last && !any_leaves(cut(program, last))
 }
 
 // A target is no start, or what is to stand alone has company. What is not control has neither.
@@ -86,20 +77,17 @@ fn is_bad_control(program: &[u8], at: Place, x: Spot, last: Place) -> bool
 }
 
 // 8: a target is no start, a stop or a return has company, or the last instruction has neither goto, stop nor return.
-pub fn bad_control(program: &[u8]) -> Found
+pub fn bad_control(program: &[u8]) -> Option<Place>
     requires { 0 < length (words program.now) }
     ensures { result ≡ lowest (bad_control_at (words program.now)) (length (words program.now)) }
 {
-    let n = program.len() / 4;
     let last = last_start(program);
     let mut x = before_all();
-    let mut at = Place(0);
-    while at.0 < n {
-        x = next_spot(x, isa::program::syllable(program, at));
-        if is_bad_control(program, at, x, last) {
-            return Found::At(at);
+    for i in 0..program.len() / 4 {
+        x = next_spot(x, isa::program::syllable(program, Place(i)));
+        if is_bad_control(program, Place(i), x, last) {
+            return Some(Place(i));
         }
-        at = Place(at.0 + 1);
     }
-    Found::Nothing
+    None
 }

@@ -1,46 +1,20 @@
 // Refusals 6 and 7: tests of each instruction, the lowest place first.
-ghost use Rattle.std.specs.Prelude.{◌≡◌, true, false, not, ◌||◌, ◌&&◌, List, ◌∷◌, ℕ, ◌+◌, ◌≤◌, ◌<◌, eqb, ltb, length, get_or, set};
+ghost use Rattle.std.specs.Prelude.{◌≡◌, true, false, not, ◌||◌, ◌&&◌, List, ◌∷◌, map, ℕ, ◌+◌, ◌≤◌, ◌<◌, eqb, ltb, length, get_or, set};
 ghost use Rattle.word.specs.Choice.{pick, bit};
 ghost use Rattle.word.specs.Bytes.{words};
 ghost use Rattle.word.specs.Lists.{any_below, repeats};
 ghost use Rattle.isa.specs.Lowest.{lowest};
-ghost use Rattle.isa.specs.Program.{spot_at, is_start, instruction_at, following, operations_at};
+ghost use Rattle.isa.specs.Program.{spots, spot_at, operation};
 ghost use Rattle.isa.specs.Touch.{destinations};
-ghost use Rattle.isa.specs.declared.Delays.{Delays};
 ghost use Rattle.isa.specs.declared.Spot.{Spot};
 ghost use Rattle.refusals.specs.Broken.{overfull, too_wide, too_wide_at, two_writes_at};
 
 use isa::control::is_control;
 use isa::decode::destinations;
-use isa::program::syllable;
-use isa::stretch::{before_all, cluster, next_spot};
+use isa::stretch::{cluster, cut};
 use isa::syllable::{is_alu, is_copy, is_mem, is_mul, opcode, source};
-use isa::{Found, Place, Spot, Table};
-
-// What a test of one instruction says: it breaks it, or the place after the instruction.
-#[derive(Clone, Copy)]
-struct Tested {
-    broken: bool,
-    next: Place,
-}
-
-fn broken(at: Place) -> Tested
-    ensures { result ≡ record { broken = true; next = at } }
-{
-    Tested {
-        broken: true,
-        next: at,
-    }
-}
-
-fn passed(next: Place) -> Tested
-    ensures { result ≡ record { broken = false; next = next } }
-{
-    Tested {
-        broken: false,
-        next,
-    }
-}
+use isa::walk::spots;
+use isa::{Place, Spot, Table};
 
 // Takes one of what cluster c has left, and says whether nothing was left. Only the table's clusters have anything.
 fn take(left: &mut [u8; 4], clusters: usize, c: usize) -> bool
@@ -72,90 +46,64 @@ fn take_copy(left: &mut [u8; 4], clusters: usize, c: usize, from: usize) -> bool
 }
 
 // Takes a syllable from what its cluster has left, of all and of its class, and says whether something was not there to take.
-fn overfills(
-    clusters: usize,
-    x: Spot,
-    all: &mut [u8; 4],
-    alu: &mut [u8; 4],
-    mul: &mut [u8; 4],
-    mem: &mut [u8; 4],
-    copy: &mut [u8; 4],
-) -> bool
-    requires { clusters ≤ 4 }
-    ensures { (delays : Delays) (xs : List Spot) →
-        any_below (overfull (record { clusters = clusters; width = all.old; alu = alu.old; mul = mul.old; mem = mem.old; copy = copy.old; delays = delays }) (x ∷ xs)) clusters
-        ≡ result || any_below (overfull (record { clusters = clusters; width = all.new; alu = alu.new; mul = mul.new; mem = mem.new; copy = copy.new; delays = delays }) xs) clusters }
+fn overfills(left: &mut Table, x: Spot) -> bool
+    requires { left.old.clusters ≤ 4 }
+    ensures clusters { left.new.clusters ≡ left.old.clusters }
+    ensures is { (xs : List Spot) → any_below (overfull left.old (x ∷ xs)) left.old.clusters
+        ≡ result || any_below (overfull left.new xs) left.old.clusters }
 {
+    let clusters = left.clusters;
     let c = cluster(x);
     let o = opcode(x.syllable);
-    if take(all, clusters, c) {
+    if take(&mut left.width, clusters, c) {
         return true;
     }
     if is_alu(o) {
-        return take(alu, clusters, c);
+        return take(&mut left.alu, clusters, c);
     }
     if is_mul(o) {
-        return take(mul, clusters, c);
+        return take(&mut left.mul, clusters, c);
     }
     if is_mem(o) {
-        return take(mem, clusters, c);
+        return take(&mut left.mem, clusters, c);
     }
     if is_copy(o) {
-        return take_copy(copy, clusters, c, source(x.syllable) as usize);
+        return take_copy(&mut left.copy, clusters, c, source(x.syllable) as usize);
     }
     false
 }
 
-// 6, of the instruction that starts at a place.
-fn is_too_wide(table: Table, program: &[u8], at: Place) -> Tested
-    requires clusters_bound { table.clusters ≤ 4 }
-    requires at_value { is_start (words program.now) at.0 ≡ true }
-    ensures is { result.broken ≡ too_wide table (instruction_at (words program.now) at.0) }
-    ensures next { result.broken ≡ false → result.next.0 ≡ following (words program.now) at.0 }
+// 6, of an instruction's stretch.
+fn is_too_wide(table: Table, stretch: &[u8]) -> bool
+    requires { table.clusters ≤ 4 }
+    ensures { result ≡ too_wide table (spots (words stretch.now)) }
 {
-    let clusters = table.clusters;
-    // What is left of the table's counts.
-    let mut all = table.width;
-    let mut alu = table.alu;
-    let mut mul = table.mul;
-    let mut mem = table.mem;
-    let mut copy = table.copy;
+    let mut left = table;
     let mut controlled = false;
-    let mut x = before_all();
-    for i in at.0..program.len() / 4 {
-        x = next_spot(x, syllable(program, Place(i)));
-        if overfills(
-            clusters, x, &mut all, &mut alu, &mut mul, &mut mem, &mut copy,
-        ) {
-            return broken(at);
+    for x in spots(stretch) {
+        let control = is_control(x.syllable);
+        if overfills(&mut left, x) | (controlled & control) {
+            return true;
         }
-        if is_control(x.syllable) {
-            if controlled {
-                return broken(at);
-            }
-            controlled = true;
-        }
-        if x.last {
-            return passed(Place(i + 1));
-        }
+        controlled |= control;
     }
-    passed(Place(program.len() / 4))
+    false
 }
 
 // 6: more in a cluster, or more control, than one instruction may have.
-pub fn too_wide(table: Table, program: &[u8]) -> Found
+pub fn too_wide(table: Table, program: &[u8]) -> Option<Place>
     requires { table.clusters ≤ 4 }
     ensures { result ≡ lowest (too_wide_at table (words program.now)) (length (words program.now)) }
 {
     let mut at = Place(0);
     while at.0 < program.len() / 4 {
-        let t = is_too_wide(table, program, at);
-        if t.broken {
-            return Found::At(at);
+        let stretch = cut(program, at);
+        if is_too_wide(table, stretch) {
+            return Some(at);
         }
-        at = t.next;
+        at = Place(at.0 + stretch.len() / 4);
     }
-    Found::Nothing
+    None
 }
 
 // Stamps register r, unless it is 0, and says whether it had this stamp.
@@ -172,43 +120,36 @@ fn stamp(stamps: &mut [usize; 288], r: u32, n: usize) -> bool
     was
 }
 
-// 7, of the instruction that starts at a place; none opens a fifth cluster. Its stamp is above all that were used before it, so that
-// nothing has to be cleared.
-fn has_two_writes(program: &[u8], at: Place, stamps: &mut [usize; 288]) -> Tested
-    requires at_value { is_start (words program.now) at.0 ≡ true }
-    requires by_index { (j : ℕ) → j < length (words program.now) → (spot_at (words program.now) j).opened ≤ 4 }
-    requires stamps_len { (length stamps.old ≡ 288) × ((r : ℕ) → get_or stamps.old r 0 ≤ at.0) }
-    ensures is { result.broken ≡ repeats (destinations (operations_at (words program.now) at.0)) }
-    ensures next { result.broken ≡ false → result.next.0 ≡ following (words program.now) at.0 }
-    ensures stamped { (length stamps.new ≡ 288) × ((r : ℕ) → get_or stamps.new r 0 ≤ at.0 + 1) }
+// 7, of an instruction's stretch; none opens a fifth cluster. The stamp n is above all that were used before it, so that nothing has to be
+// cleared.
+fn has_two_writes(stretch: &[u8], n: usize, stamps: &mut [usize; 288]) -> bool
+    requires few { (j : ℕ) → j < length (words stretch.now) → (spot_at (words stretch.now) j).opened ≤ 4 }
+    requires unused { (r : ℕ) → get_or stamps.old r 0 < n }
+    ensures is { result ≡ repeats (destinations (map operation (spots (words stretch.now)))) }
+    ensures used { (r : ℕ) → get_or stamps.new r 0 ≤ n }
 {
-    let mut x = before_all();
-    for i in at.0..program.len() / 4 {
-        x = next_spot(x, syllable(program, Place(i)));
+    for x in spots(stretch) {
         let d = destinations(cluster(x) as u32, x.syllable);
-        if stamp(stamps, d.t, at.0 + 1) | stamp(stamps, d.carry, at.0 + 1) {
-            return broken(at);
-        }
-        if x.last {
-            return passed(Place(i + 1));
+        if stamp(stamps, d.t, n) | stamp(stamps, d.carry, n) {
+            return true;
         }
     }
-    passed(Place(program.len() / 4))
+    false
 }
 
 // 7: a register, not register 0, twice as destination.
-pub fn two_writes(program: &[u8]) -> Found
+pub fn two_writes(program: &[u8]) -> Option<Place>
     requires { (j : ℕ) → j < length (words program.now) → (spot_at (words program.now) j).opened ≤ 4 }
     ensures { result ≡ lowest (two_writes_at (words program.now)) (length (words program.now)) }
 {
-    let mut stamps: [usize; 288] = [0; 288];
+    let mut stamps = [0; 288];
     let mut at = Place(0);
     while at.0 < program.len() / 4 {
-        let t = has_two_writes(program, at, &mut stamps);
-        if t.broken {
-            return Found::At(at);
+        let stretch = cut(program, at);
+        if has_two_writes(stretch, at.0 + 1, &mut stamps) {
+            return Some(at);
         }
-        at = t.next;
+        at = Place(at.0 + stretch.len() / 4);
     }
-    Found::Nothing
+    None
 }

@@ -9,33 +9,31 @@ ghost use Rattle.refusals.specs.Broken.{no_end_at, bad_bits_at, bad_cluster, bad
 
 use isa::control::is_control;
 use isa::program::syllable;
-use isa::stretch::{before_all, cluster, next_spot};
+use isa::stretch::cluster;
 use isa::syllable::{ends, is_copy, opcode, opens, source};
-use isa::{Found, Place, Spot};
+use isa::walk::spots;
+use isa::{Place, Spot};
 
 // 3: the last syllable lacks bit 31.
-pub fn no_end(program: &[u8]) -> Found
+pub fn no_end(program: &[u8]) -> Option<Place>
     requires { 0 < length (words program.now) }
     ensures { result ≡ lowest (no_end_at (words program.now)) (length (words program.now)) }
 {
     let last = Place(program.len() / 4 - 1);
     if ends(syllable(program, last)) {
-        Found::Nothing
+        None
     } else {
-        Found::At(last)
+        Some(last)
     }
 }
 
 // 4: a bit that should be zero is set.
-pub fn bad_bits(program: &[u8]) -> Found
+pub fn bad_bits(program: &[u8]) -> Option<Place>
     ensures { result ≡ lowest (bad_bits_at (words program.now)) (length (words program.now)) }
 {
-    for i in 0..program.len() / 4 {
-        if zero::bad_bits(syllable(program, Place(i))) {
-            return Found::At(Place(i));
-        }
-    }
-    Found::Nothing
+    spots(program)
+        .position(|x| zero::bad_bits(x.syllable))
+        .map(Place)
 }
 
 // Control outside cluster 0.
@@ -76,15 +74,10 @@ fn is_bad_cluster(clusters: usize, x: Spot) -> bool
 }
 
 // 5: clusters that do not open as they should, control or a copy where it may not stand.
-pub fn bad_cluster(clusters: usize, program: &[u8]) -> Found
+pub fn bad_cluster(clusters: usize, program: &[u8]) -> Option<Place>
     ensures { result ≡ lowest (bad_cluster_at clusters (words program.now)) (length (words program.now)) }
 {
-    let mut x = before_all();
-    for i in 0..program.len() / 4 {
-        x = next_spot(x, syllable(program, Place(i)));
-        if is_bad_cluster(clusters, x) {
-            return Found::At(Place(i));
-        }
-    }
-    Found::Nothing
+    spots(program)
+        .position(|x| is_bad_cluster(clusters, x))
+        .map(Place)
 }

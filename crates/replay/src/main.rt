@@ -6,36 +6,63 @@ mod assembles;
 mod programs;
 mod results;
 mod runs;
-mod sources;
 mod stream;
 mod texts;
 
 use std::io;
-use stream::{Stream, fill};
+use stream::{Header, Stop, Stream};
+
+// What a request asks for.
+enum Kind {
+    Results,
+    Load,
+    Check,
+    Run,
+    Show,
+    Assemble,
+    Print,
+}
+
+impl TryFrom<u8> for Kind {
+    type Error = Stop;
+
+    fn try_from(number: u8) -> Result<Kind, Stop> {
+        match number {
+            1 => Ok(Kind::Results),
+            2 => Ok(Kind::Load),
+            3 => Ok(Kind::Check),
+            4 => Ok(Kind::Run),
+            5 => Ok(Kind::Show),
+            6 => Ok(Kind::Assemble),
+            7 => Ok(Kind::Print),
+            _ => Err(Stop::Ended),
+        }
+    }
+}
+
+// Reads a request and answers it.
+fn answer(stream: Stream) -> Result<(), Stop> {
+    let mut header = Header([0; 32]);
+    stream.read(&mut header.0)?;
+    match Kind::try_from(header.kind())? {
+        Kind::Results => results::answer(stream, &header),
+        Kind::Load => programs::answer(stream, &header, sandbox::vex_load),
+        Kind::Check => programs::answer(stream, &header, sandbox::vex_check),
+        Kind::Run => runs::answer(stream, &header),
+        Kind::Show => texts::answer::<40_000, _>(stream, &header, texts::show),
+        Kind::Assemble => assembles::answer(stream, &header),
+        Kind::Print => texts::answer::<300_000, _>(stream, &header, texts::print),
+    }
+}
 
 fn main(rt: HostRuntime) -> io::Result<()> {
-    let stream = Stream {
-        input: rt.stdin(),
-        output: rt.stdout(),
-    };
-    let mut header = [0u8; 32];
+    let stream = Stream::new(rt.stdin(), rt.stdout());
     // no loop is endless: a stream has at most this many requests
     for _ in 0..1_000_000_000u64 {
-        if !fill(stream, &mut header, 32)? {
-            return Ok(());
-        }
-        let more = match header[3] {
-            1 => results::answer(stream, &header)?,
-            2 => programs::answer(stream, &header, false)?,
-            3 => programs::answer(stream, &header, true)?,
-            4 => runs::answer(stream, &header)?,
-            5 => texts::answer(stream, &header)?,
-            6 => assembles::answer(stream, &header)?,
-            7 => sources::answer(stream, &header)?,
-            _ => false,
-        };
-        if !more {
-            return Ok(());
+        match answer(stream) {
+            Ok(()) => {}
+            Err(Stop::Ended) => return Ok(()),
+            Err(Stop::Failed(e)) => return Err(e),
         }
     }
     Ok(())

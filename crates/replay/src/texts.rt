@@ -1,28 +1,31 @@
-// Kind 5: a text.
-ghost use Rattle.std.specs.Prelude.{◌≡◌, length};
+// Kinds 5 and 7: a text for the program preview or assemble.
+ghost use Rattle.std.specs.Prelude.{◌<◌, ◌^◌};
 
-use crate::stream::{Stream, fill, write_bytes, write_number};
-use std::io;
-use word::number::word_at;
+use crate::stream::{Header, Stop, Stream};
 
-fn show(stream: Stream, input: &[u8]) -> io::Result<()> {
+// What the text program shows of a text.
+pub fn show(stream: Stream, input: &[u8]) -> Result<(), Stop> {
     let shown = text::show(input);
-    write_number(stream, shown.length as u32)?;
-    write_bytes(stream, &shown.bytes[0..shown.length])
+    stream.write_string(shown.as_slice())
 }
 
-// Reads the input, and writes the output's length and the output; false where the stream ended.
-pub fn answer(stream: Stream, header: &[u8]) -> io::Result<bool>
-    requires { length header.now ≡ 32 }
+// What a text is assembled to, as it is printed.
+pub fn print(stream: Stream, input: &[u8]) -> Result<(), Stop> {
+    let printed = assembly::print(input);
+    stream.write_string(printed.as_slice())
+}
+
+// Reads a text of at most N bytes, and writes what is made of it.
+pub fn answer<const N: usize, F: FnOnce(Stream, &[u8]) -> Result<(), Stop>>(
+    stream: Stream,
+    header: &Header,
+    write: F,
+) -> Result<(), Stop>
+    requires size { N < 2 ^ 32 }
+    requires writes { F.IsAlwaysCallable write }
 {
-    let mut input = [0u8; 40000];
-    let n = word_at(header, 4) as usize;
-    if 40000 < n {
-        return Ok(false);
-    }
-    if !fill(stream, &mut input, n)? {
-        return Ok(false);
-    }
-    show(stream, &input[0..n])?;
-    Ok(true)
+    let mut input = [0; N];
+    let input = header.part(1, &mut input)?;
+    stream.read(input)?;
+    write(stream, input)
 }

@@ -10,19 +10,19 @@ use Rattle.machine.specs.Link.{Memory, Change, change}
 use Rattle.machine.specs.Instruction.{instruction_of}
 use Rattle.machine.specs.State.{registers_of, Sized}
 use Rattle.ticks.specs.Ticks.{views, Bank}
+use Rattle.ticks.specs.declared.Register.{Register}
 use Rattle.turn.specs.Turn.{situation_at, beside, ended_by}
 use Rattle.run.specs.declared.Ended.{Ended}
 use Rattle.run.specs.declared.Left.{Left}
 
--- at most n turns from s to r and the arrays, with so many landing bytes taken
-pub record Finished (d : Delays) (program landing : List ℕ) (n : ℕ) (s : Situation Memory Change) (r : Ended) (vs os rs ls m : List ℕ) : Type 0 where
+-- at most n turns from s to where r stands, and the registers
+pub record Finished (d : Delays) (program landing : List ℕ) (n : ℕ) (s : Situation Memory Change) (r : Ended) (rs : List Register) (m : List ℕ) : Type 0 where
   pub few : r.count.0 ≤ n
-  pub bank : Bank r.count.0 vs os rs ls
-  pub start : is_start program r.place.0 ≡ true
-  pub low : r.link.place.0 < 2 ^ 32
-  pub used : ℕ
+  pub bank : Bank r.count.0 rs
+  pub start : is_start program r.at.place.0 ≡ true
+  pub low : r.at.link.place.0 < 2 ^ 32
   pub is : run (step change (instruction_of d program)) n s
-      ≡ record { ending = r.ending; count = r.count.0; state = ended_by r.ending (situation_at r.place.0 (views r.count.0 vs os rs ls) (beside m r.link) landing used) }
+      ≡ record { ending = r.ending; count = r.count.0; state = ended_by r.ending (situation_at r.at.place.0 (views r.count.0 rs) (beside m r.at.link) landing r.at.used) }
 
 -- k instructions are done, and the rest of the run is r
 abbrev pub after : ℕ → Ran (Situation Memory Change) → Ran (Situation Memory Change)

@@ -20,8 +20,8 @@ use Rattle.isa.specs.Decode.{decode}
 use Rattle.isa.specs.declared.Delays.{Delays}
 use Rattle.tables.specs.Table.{table_of}
 use Rattle.reach.specs.Nexts.{nexts_at}
+use Rattle.std.specs.Prelude.{Ok}
 use Rattle.schedule.specs.Rule.{dests_at, uses_at, TooSoonAt}
-use Rattle.schedule.specs.declared.Verdict.TheVariants.{Good}
 use Rattle.samples.specs.Schedules.{delays, two, three, self, SaidOf, too_soon, Examples}
 
 module _ {A : Type 0} (f : A → List ℕ) where
@@ -110,7 +110,7 @@ looping = (
   λ j t. zero-le,
 )
 
-pub three_on : SaidOf three Good
+pub three_on : SaidOf three (Ok tt)
 unfolding format_of decode table_of
 three_on zero q t = Memᴰ.not-nil (soon delays (words three) t)
 three_on (suc zero) q t = Memᴰ.not-nil (soon delays (words three) t)

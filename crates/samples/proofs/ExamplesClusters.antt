@@ -6,6 +6,7 @@ use mathlib.Core.List.{List, [], ◌∷◌}
 use Prim.Native.Nat.{ℕ, zero, suc}
 use native.Mathlib.Omega.{arith}
 use lib.ListN.{get_or, get_or-map}
+use Rattle.std.specs.Prelude.{Ok}
 use Rattle.word.specs.Bytes.{AreBytes, words}
 use Rattle.word.proofs.Bytes.{are_bytes_take}
 use Rattle.vliw.specs.Run.{Ran, number_of}
@@ -24,9 +25,7 @@ use Rattle.zero.specs.Zero.{bad_bits}
 use Rattle.refusals.specs.Broken.{no_end_at, bad_bits_at, bad_cluster_at, too_wide_at, two_writes_at, bad_control_at}
 use Rattle.loader.specs.Load.{tested_by, loaded_with, loaded_of}
 use Rattle.loader.specs.Answer.{answer, answered, room_with}
-use Rattle.loader.specs.declared.Loaded.TheVariants.{Good}
 use Rattle.schedule.specs.Rule.{Says}
-use Rattle.schedule.specs.declared.Verdict.TheVariants as verdict
 use Rattle.machine.specs.Link.{Memory, Change}
 use Rattle.machine.specs.Instruction.{acts}
 use Rattle.machine.specs.Image.{registers_in}
@@ -47,11 +46,11 @@ delays = (table_of table).delays
 
 -- ---- it loads, and passes the check
 
-good : (loaded_of table program room ≡ Good) × (found (call longer []) ≡ Good)
+good : (loaded_of table program room ≡ Ok tt) × (found (call longer []) ≡ Ok tt)
 unfolding loaded_with tested_by no_end_at bad_bits_at bad_cluster_at too_wide_at two_writes_at bad_control_at bad_table table_of bad_bits way_of format_of decode
 good = (refl, refl)
 
-clean : Says delays (words program) verdict.Good
+clean : Says delays (words program) (Ok tt)
 unfolding format_of decode table_of
 clean zero q t = Memᴰ.not-nil (soon delays (words program) t)
 clean (suc zero) q t = Memᴰ.not-nil (soon delays (words program) t)
@@ -71,7 +70,7 @@ passes : Passes table program
 passes = record {
   room = room;
   left = answered (answer 0 0 0) room;
-  checks = (answer 0 0 0, rw good.0 (verdict.Good, clean, refl), refl);
+  checks = (answer 0 0 0, rw good.0 (Ok tt, clean, refl), refl);
   clean = refl;
 }
 

@@ -5,6 +5,7 @@ use mathlib.Core.List.{List, [], ◌∷◌}
 use Prim.Native.Nat.{ℕ}
 use native.Mathlib.Omega.{arith}
 use lib.ListN.{replicate}
+use Rattle.std.specs.Prelude.{Ok}
 use Rattle.word.specs.Bytes.{words, word_at}
 use Rattle.vliw.specs.Run.{Ran, number_of, run}
 use Rattle.vliw.specs.declared.Ending.TheVariants.{Stopped}
@@ -21,7 +22,6 @@ use Rattle.zero.specs.Zero.{bad_bits}
 use Rattle.refusals.specs.Broken.{no_end_at, bad_bits_at, bad_cluster_at, too_wide_at, two_writes_at, bad_control_at}
 use Rattle.loader.specs.Load.{tested_by, loaded_with}
 use Rattle.loader.specs.Answer.{answer, room_with}
-use Rattle.loader.specs.declared.Loaded.TheVariants.{Good}
 use Rattle.machine.specs.Link.{Memory, Change, memory_of, change}
 use Rattle.machine.specs.Instruction.{acts, instruction_of}
 use Rattle.machine.specs.Image.{place_in, registers_in, link_in}
@@ -35,11 +35,11 @@ use Rattle.samples.proofs.Wrongs.{never_same}
 
 -- ---- the calls are taken
 
-good : (found (example 16) ≡ Good) × (found adding ≡ Good) × (found (comparing []) ≡ Good) × (found visiting ≡ Good)
+good : (found (example 16) ≡ Ok tt) × (found adding ≡ Ok tt) × (found (comparing []) ≡ Ok tt) × (found visiting ≡ Ok tt)
 unfolding loaded_with tested_by no_end_at bad_bits_at bad_cluster_at too_wide_at two_writes_at bad_control_at bad_table table_of bad_bits way_of format_of decode
 good = (refl, refl, refl, refl)
 
-taken : (p landing : List ℕ) (n : ℕ) → found (calling p landing n) ≡ Good → is_start (words p) (place_in zeros) ≡ true → Taken (calling p landing n)
+taken : (p landing : List ℕ) (n : ℕ) → found (calling p landing n) ≡ Ok tt → is_start (words p) (place_in zeros) ≡ true → Taken (calling p landing n)
 taken p landing n e start = record { good = e; valid = zeros_valid (words p) start }
 
 taken_example : (n : ℕ) → Taken (example n)

@@ -6,6 +6,7 @@ use Prim.Native.Nat.{ℕ}
 use native.Mathlib.Omega.{arith}
 use lib.Dec.{eqb}
 use borrow.Author.Tests.{eqb-true, eq-eqb}
+use Rattle.std.specs.Prelude.{Ok}
 use Rattle.word.proofs.Choice.{by_test, never_both}
 use Rattle.isa.specs.Syllable.{format_of}
 use Rattle.isa.specs.Control.{way_of}
@@ -15,10 +16,8 @@ use Rattle.zero.specs.Zero.{bad_bits}
 use Rattle.refusals.specs.Broken.{no_end_at, bad_bits_at, bad_cluster_at, too_wide_at, two_writes_at, bad_control_at}
 use Rattle.loader.specs.Load.{tested_by, loaded_with, loaded_of}
 use Rattle.loader.specs.Answer.{RoomOutcome, answered, load_outcome}
-use Rattle.loader.specs.declared.Loaded.TheVariants.{Good}
+use Rattle.schedule.specs.Rule.{Verdict}
 use Rattle.schedule.specs.Answer.{verdict_answer, Checks}
-use Rattle.schedule.specs.declared.Verdict.{Verdict}
-use Rattle.schedule.specs.declared.Verdict.TheVariants as verdict
 use Rattle.schedule.proofs.Once.{one_outcome}
 use Rattle.samples.specs.Wrong.{NeverSame, LoadCall, Loads, ChecksCall, Wrong, table, program, room, under}
 use Rattle.samples.specs.Schedules.{two, three, SaidOf, too_soon}
@@ -54,16 +53,16 @@ wrong_load =
 
 -- ---- check
 
-good : (loaded_of table two room ≡ Good) × (loaded_of table three room ≡ Good)
+good : (loaded_of table two room ≡ Ok tt) × (loaded_of table three room ≡ Ok tt)
 unfolding loaded_with tested_by no_end_at bad_bits_at bad_cluster_at too_wide_at two_writes_at bad_control_at bad_table table_of bad_bits way_of format_of decode
 good = (refl, refl)
 
 -- the number that check gives a program that load takes, by the verdict
-checks : (program : List ℕ) (v : Verdict) → loaded_of table program room ≡ Good → SaidOf program v
+checks : (program : List ℕ) (v : Verdict) → loaded_of table program room ≡ Ok tt → SaidOf program v
     → (o : RoomOutcome) → Checks table program room o → o.result ≡ (verdict_answer v).number
 checks program v e h o c =
     ap (λ (x : RoomOutcome). x.result) (one_outcome table program room o (answered (verdict_answer v) room) c (verdict_answer v, rw e (v, h, refl), refl))
 
 pub wrong_check : Wrong ChecksCall (under table three) (under table two)
 wrong_check =
-    wrong ChecksCall (under table three) (under table two) 9 (λ e. omega arith) (checks three verdict.Good good.1 three_on) (checks two (too_soon 0 2) good.0 two_on)
+    wrong ChecksCall (under table three) (under table two) 9 (λ e. omega arith) (checks three (Ok tt) good.1 three_on) (checks two (too_soon 0 2) good.0 two_on)

@@ -1,12 +1,11 @@
 -- Document 01, "Checked values", all of it as a single table: the operations, the swap and the schedule row.
-use Rattle.std.specs.Prelude.{◌≡◌, [], ◌∷◌, ℕ}
+use Rattle.std.specs.Prelude.{◌≡◌, [], ◌∷◌, ℕ, Ok}
 use Rattle.std.proofs.lemmas.List.Edits.{sets}
 use Rattle.word.specs.Bytes.{bytes, word_at}
 use Rattle.ops.specs.Value.{value, carry}
 use Rattle.isa.specs.Decode.{immediate_of}
 use Rattle.machine.specs.Image.{image_offset}
 use Rattle.call.specs.Run.{Call, run_outcome}
-use Rattle.schedule.specs.declared.Verdict.TheVariants.{Good}
 use Rattle.samples.specs.Wrong.{table, room}
 use Rattle.samples.specs.WrongRun.{zeros}
 use Rattle.samples.specs.Schedules.{two, three, SaidOf, too_soon}
@@ -43,4 +42,4 @@ pub record Checked : Type 0 where
   pub swap : (left_in 3 ≡ 0x44444444) × (left_in 4 ≡ 0x33333333)
   -- "With LOAD 3 a reader two instructions on is 9, three on is not."
   pub two_on : SaidOf two (too_soon 0 2)
-  pub three_on : SaidOf three Good
+  pub three_on : SaidOf three (Ok tt)

@@ -1,12 +1,10 @@
 -- Schedules that check passes and refuses.
-use Rattle.std.specs.Prelude.{List, [], ◌∷◌, ℕ}
+use Rattle.std.specs.Prelude.{List, [], ◌∷◌, ℕ, Ok, Err}
 use Rattle.word.specs.Bytes.{words}
 use Rattle.isa.specs.Control.{place}
 use Rattle.isa.specs.declared.Delays.{Delays}
 use Rattle.tables.specs.Table.{table_of}
-use Rattle.schedule.specs.Rule.{Says}
-use Rattle.schedule.specs.declared.Verdict.{Verdict}
-use Rattle.schedule.specs.declared.Verdict.TheVariants.{Good, TooSoon}
+use Rattle.schedule.specs.Rule.{Verdict, Says}
 use Rattle.samples.specs.Wrong.{table}
 
 -- ldw 3 = 0[0]; nop; add 4 = 3, 1; stop
@@ -32,11 +30,11 @@ abbrev pub SaidOf : List ℕ → Verdict → Type 0
 SaidOf program v = Says delays (words program) v
 
 abbrev pub too_soon : ℕ → ℕ → Verdict
-too_soon p q = TooSoon (place p) (place q)
+too_soon p q = Err (record { producer = place p; consumer = place q })
 
 -- document 01: "With LOAD 3 a reader two instructions on is 9, three on is not"
 pub record Examples : Type 0 where
   pub two_on : SaidOf two (too_soon 0 2)
-  pub three_on : SaidOf three Good
+  pub three_on : SaidOf three (Ok tt)
   -- a loop to itself is its own consumer
   pub looping : SaidOf self (too_soon 0 0)

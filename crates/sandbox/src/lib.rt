@@ -9,8 +9,7 @@ ghost use Rattle.schedule.specs.Answer.{Answers, Checks};
 
 mod runs;
 
-use call::replies::of_reply;
-use loader::{Answer, Loaded, answers};
+use loader::{Answer, answers};
 use runs::call;
 use schedule::answers::of_verdict;
 use tables::read;
@@ -28,7 +27,7 @@ pub fn vex_load(table: &[u8], program: &[u8], room: &mut [u8]) -> u32
     ensures { record { result = result; room = room.new }
         ≡ load_outcome table.now program.now room.old }
 {
-    let answer = answers::of_load(loader::load(table, program, room));
+    let answer = Answer::from(loader::load(table, program, room));
     answers::write(room, answer);
     answer.number
 }
@@ -38,8 +37,8 @@ fn checked(table: &[u8], program: &[u8], room: &[u8]) -> Answer
     ensures { Answers table.now program.now room.now result }
 {
     match loader::load(table, program, room) {
-        Loaded::Refused(r) => answers::of_refusal(r),
-        Loaded::Good => of_verdict(schedule::check(read(table), program)),
+        Err(refusal) => refusal.into(),
+        Ok(()) => of_verdict(schedule::check(read(table), program)),
     }
 }
 
@@ -74,7 +73,10 @@ pub fn vex_run(
           room = room.old;
         }) }
 {
-    let answer = of_reply(call(table, program, state, memory, landing, n, room));
+    let answer = match call(table, program, state, memory, landing, n, room) {
+        Ok(ended) => Answer::from(ended),
+        Err(unrun) => Answer::from(unrun),
+    };
     answers::write(room, answer);
     answer.number
 }

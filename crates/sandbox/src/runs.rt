@@ -1,38 +1,37 @@
 // A call of run up to its reply: what stands against it, and the run itself.
-ghost use Rattle.std.specs.Prelude.{◌≡◌, List, ℕ, ◌≤◌, length};
+ghost use Rattle.std.specs.Prelude.{◌≡◌, List, ℕ, ◌≤◌, length, Ok};
 ghost use Rattle.word.specs.Bytes.{words};
 ghost use Rattle.tables.specs.Table.{table_of};
 ghost use Rattle.tables.specs.Bounds.{Bounds};
-ghost use Rattle.loader.specs.declared.Loaded.TheVariants.{Good};
 ghost use Rattle.loader.specs.Passed.{Passed};
 ghost use Rattle.call.specs.Run.{sizes_of, done_by, done_of};
 
-use call::Reply;
+use call::{Ended, Unrun};
 use isa::Count;
 use isa::program::is_start;
-use loader::{Loaded, Refusal, bad_program_length, load_with};
+use loader::{Refusal, bad_program_length, load_with};
 use machine::image;
 use machine::valid::bad_registers;
 use run::run;
 use tables::read;
 
 // 2, for run: the program, the memory, the state image, then the room.
-fn sizes(program: &[u8], memory: &[u8], state: &[u8], room: &[u8]) -> Loaded
+fn sizes(program: &[u8], memory: &[u8], state: &[u8], room: &[u8]) -> Result<(), Refusal>
     ensures { result ≡ sizes_of program.now memory.now state.now room.now }
 {
     if bad_program_length(program) {
-        return Loaded::Refused(Refusal::ProgramLength);
+        return Err(Refusal::ProgramLength);
     }
     if 65536 < memory.len() {
-        return Loaded::Refused(Refusal::MemoryLength);
+        return Err(Refusal::MemoryLength);
     }
     if state.len() != 2888 {
-        return Loaded::Refused(Refusal::StateLength);
+        return Err(Refusal::StateLength);
     }
     if room.len() != 12 {
-        return Loaded::Refused(Refusal::RoomLength);
+        return Err(Refusal::RoomLength);
     }
-    Loaded::Good
+    Ok(())
 }
 
 // The run of a program that loads, from the state that the image holds.
@@ -43,10 +42,10 @@ fn ran(
     memory: &mut [u8],
     landing: &[u8],
     n: u32,
-) -> Reply
+) -> Result<Ended, Unrun>
     requires bounds { Bounds (table_of table.now) × Passed (table_of table.now) (words program.now) }
     requires program_len_bound { (length program.now ≤ 16384) × (length state.old ≡ 2888) }
-    ensures { (room : List ℕ) → record { reply = result; state = state.new; memory = memory.new } ≡ done_by Good (record {
+    ensures { (room : List ℕ) → record { reply = result; state = state.new; memory = memory.new } ≡ done_by (Ok tt) (record {
       table = table.now;
       program = program.now;
       state = state.old;
@@ -58,18 +57,18 @@ fn ran(
 {
     let s = image::read(state);
     if !is_start(program, s.place) {
-        return Reply::BadState;
+        return Err(Unrun::BadState);
     }
     if bad_registers(&s) {
-        return Reply::BadState;
+        return Err(Unrun::BadState);
     }
     let r = run(read(table), program, memory, landing, Count(n as u64), s);
-    let ending = r.ending;
-    let count = r.count;
-    let left = r.state;
-    let place = left.place;
-    image::write(state, left);
-    Reply::Ended(ending, count, place)
+    image::write(state, &r.state);
+    Ok(Ended {
+        ending: r.ending,
+        count: r.count,
+        place: r.state.place,
+    })
 }
 
 // A call of run, all but its answer.
@@ -81,7 +80,7 @@ pub fn call(
     landing: &[u8],
     n: u32,
     room: &[u8],
-) -> Reply
+) -> Result<Ended, Unrun>
     ensures { record { reply = result; state = state.new; memory = memory.new } ≡ done_of (record {
       table = table.now;
       program = program.now;
@@ -92,8 +91,6 @@ pub fn call(
       room = room.now;
     }) }
 {
-    match load_with(sizes(program, memory, state, room), table, program) {
-        Loaded::Refused(r) => Reply::Refused(r),
-        Loaded::Good => ran(table, program, state, memory, landing, n),
-    }
+    load_with(sizes(program, memory, state, room), table, program)?;
+    ran(table, program, state, memory, landing, n)
 }

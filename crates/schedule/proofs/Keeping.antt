@@ -8,8 +8,8 @@ use Prim.Native.Nat.{ℕ, suc, ◌+◌, ◌≤◌, ◌<◌}
 use native.Mathlib.Nat.{eq-or-lt_of_le}
 use native.Mathlib.Omega.{arith}
 use lib.Dec.{eqb}
-use lib.ListN.{length, get_or, take, set, length-set}
-use lib.Seq.{take-suc, get_or-set_same, get_or-set_other}
+use lib.ListN.{length, get_or, take, length-append, get_or-append}
+use lib.Seq.{take-suc, get_or-append_seam}
 use borrow.Author.Tests.{eqb-false, ne_eqb}
 use Rattle.word.specs.Choice.{pick}
 use Rattle.vliw.specs.Machine.{Dest}
@@ -18,92 +18,89 @@ use Rattle.isa.specs.Touch.{Result, delay_of, result_in, results, dests}
 use Rattle.isa.specs.declared.Delays.{Delays}
 use Rattle.isa.specs.declared.Op.{Op}
 use Rattle.isa.proofs.Ways.{operations, operations_size, operations_at_lem}
-use Rattle.schedule.specs.Late.{late_at, LateOf, made}
+use Rattle.schedule.specs.Late.{dest, late_at, LateOf, made}
 use Rattle.schedule.specs.declared.late.Late.{Late}
 
-module _ {es : List Dest} {registers delays : List ℕ} {late : Late} (h : LateOf es registers delays late) (register delay : ℕ) where
-  -- it is none, or takes one instruction
-  pub passed_over : (register ≡ 0) ⊎ (delay ≤ 1) → LateOf (es ++ made register delay) registers delays late
-  passed_over n =
-      record {
-        size = h.size;
-        few = h.few;
-        some = h.some;
-        below = h.below;
-        sound = λ i b. Memᴰ.append_left _ (h.sound i b);
-        complete = λ m l. ⊎_elim (λ old. h.complete old l) (λ new. absurd (never n (eqb register 0) refl new l)) (Memᴰ.append_cases es m);
-        most = h.most;
-        longest = h.longest;
-      }
-    where
-      never : {e : Dest} → (register ≡ 0) ⊎ (delay ≤ 1) → (b : Bool) → eqb register 0 ≡ b
-          → Memᴰ e (pick b [] (record { reg = register; delay = delay } ∷ [])) → 1 < e.delay → ⊥
-      never n true q m l = Memᴰ.not-nil m
-      never n false q m l = ⊎_elim (eqb-false register 0 q) (λ s. omega (arith, ap (λ (d : Dest). d.delay) (Memᴰ.eq_of_singleton m))) n
+-- it is none, or takes one instruction
+pub passed_over : {es : List Dest} {late : List Late} (register delay : ℕ) → LateOf es late → (register ≡ 0) ⊎ (delay ≤ 1)
+    → LateOf (es ++ made register delay) late
+passed_over {es} register delay h n =
+    record {
+      few = h.few;
+      some = h.some;
+      below = h.below;
+      sound = λ i b. Memᴰ.append_left _ (h.sound i b);
+      complete = λ m l. ⊎_elim (λ old. h.complete old l) (λ new. absurd (never (eqb register 0) refl new l)) (Memᴰ.append_cases es m);
+      most = h.most;
+    }
+  where
+    never : {e : Dest} → (b : Bool) → eqb register 0 ≡ b
+        → Memᴰ e (pick b [] (record { reg = register; delay = delay } ∷ [])) → 1 < e.delay → ⊥
+    never true q m l = Memᴰ.not-nil m
+    never false q m l = ⊎_elim (eqb-false register 0 q) (λ s. omega (arith, ap (λ (d : Dest). d.delay) (Memᴰ.eq_of_singleton m))) n
 
-  module _ (some : register ≡ 0 → ⊥) (within : register < 288) (room : late.count < 64) (longest : ℕ) where
-    abbrev n : ℕ
-    n = late.count
+module _ {es : List Dest} {late : List Late} (register delay : ℕ) (h : LateOf es late)
+    (some : register ≡ 0 → ⊥) (within : register < 288) (low : delay ≤ 8) (room : length late < 64) where
+  abbrev new : Late
+  new = record { register = register; delay = delay }
 
-    abbrev result : ℕ → Dest
-    result = late_at (set registers n register) (set delays n delay)
+  abbrev more : List Late
+  more = late ++ new ∷ []
 
-    same : (i : ℕ) → i < n → result i ≡ late_at registers delays i
-    same i b =
-        let o : i ≡ n → ⊥ = λ e. omega arith in
-        rw (get_or-set_other registers n i register 0 o, get_or-set_other delays n i delay 0 o)
+  size : length more ≡ length late + 1
+  size = length-append late (new ∷ [])
 
-    here : result n ≡ record { reg = register; delay = delay }
-    here = rw (get_or-set_same registers n register 0 (omega (arith, h.size)), get_or-set_same delays n delay 0 (omega (arith, h.size)))
+  same : (i : ℕ) → i < length late → late_at more i ≡ late_at late i
+  same i b = ap dest (get_or-append late (new ∷ []) _ i b)
 
-    each : (i : ℕ) → i < n + 1 → ((i < n) × (result i ≡ late_at registers delays i)) ⊎ (result i ≡ record { reg = register; delay = delay })
-    each i l = ⊎_elim (λ (e : i ≡ n). inr (rw e here)) (λ b. inl (b, same i b)) (eq-or-lt_of_le (omega arith))
+  here : late_at more (length late) ≡ dest new
+  here = ap dest (get_or-append_seam late new [] _)
 
-    pub kept : delay ≤ longest → late.longest ≤ longest → longest ≤ 8
-        → LateOf (es ++ made register delay) (set registers n register) (set delays n delay) (record { count = n + 1; longest = longest })
-    kept a b c =
-        rw (ne_eqb register 0 some)
-        (record {
-          size = simp length-set h.size;
-          few = omega arith;
-          some = λ i l z.
-              ⊎_elim
-              (λ old. h.some i old.0 (sym (ap (λ (d : Dest). d.reg) old.1) ∙ z))
-              (λ new. some (sym (ap (λ (d : Dest). d.reg) new) ∙ z))
-              (each i l);
-          below = λ i l.
-              ⊎_elim
-              (λ old. omega (arith, ap (λ (d : Dest). d.reg) old.1, h.below i old.0))
-              (λ new. omega (arith, ap (λ (d : Dest). d.reg) new))
-              (each i l);
-          sound = λ i l.
-              ⊎_elim
-              (λ old. Memᴰ.cast old.1 (Memᴰ.append_left _ (h.sound i old.0)))
-              (λ new. Memᴰ.cast new (Memᴰ.append_right es (Memᴰ.head refl)))
-              (each i l);
-          complete = λ m l.
-              ⊎_elim
-              (λ old. let (i, b, e) = h.complete old l in (i, omega arith, same i b ∙ e))
-              (λ new. (n, omega arith, here ∙ sym (Memᴰ.eq_of_singleton new)))
-              (Memᴰ.append_cases es m);
-          most = λ i l.
-              ⊎_elim
-              (λ old. omega (arith, ap (λ (d : Dest). d.delay) old.1, h.most i old.0))
-              (λ new. omega (arith, ap (λ (d : Dest). d.delay) new))
-              (each i l);
-          longest = omega (arith, h.longest);
-        })
+  each : (i : ℕ) → i < length more → ((i < length late) × (late_at more i ≡ late_at late i)) ⊎ (late_at more i ≡ dest new)
+  each i l = ⊎_elim (λ (e : i ≡ length late). inr (rw e here)) (λ b. inl (b, same i b)) (eq-or-lt_of_le (omega (arith, size)))
+
+  pub kept : LateOf (es ++ made register delay) more
+  kept =
+      rw (ne_eqb register 0 some)
+      (record {
+        few = omega (arith, size);
+        some = λ i l z.
+            ⊎_elim
+            (λ old. h.some i old.0 (sym (ap (λ (d : Dest). d.reg) old.1) ∙ z))
+            (λ new. some (sym (ap (λ (d : Dest). d.reg) new) ∙ z))
+            (each i l);
+        below = λ i l.
+            ⊎_elim
+            (λ old. omega (arith, ap (λ (d : Dest). d.reg) old.1, h.below i old.0))
+            (λ new. omega (arith, ap (λ (d : Dest). d.reg) new))
+            (each i l);
+        sound = λ i l.
+            ⊎_elim
+            (λ old. Memᴰ.cast old.1 (Memᴰ.append_left _ (h.sound i old.0)))
+            (λ new. Memᴰ.cast new (Memᴰ.append_right es (Memᴰ.head refl)))
+            (each i l);
+        complete = λ m l.
+            ⊎_elim
+            (λ old. let (i, b, e) = h.complete old l in (i, omega (arith, size), same i b ∙ e))
+            (λ new. (length late, omega (arith, size), here ∙ sym (Memᴰ.eq_of_singleton new)))
+            (Memᴰ.append_cases es m);
+        most = λ i l.
+            ⊎_elim
+            (λ old. omega (arith, ap (λ (d : Dest). d.delay) old.1, h.most i old.0))
+            (λ new. omega (arith, ap (λ (d : Dest). d.delay) new))
+            (each i l);
+      })
 
 -- ---- the results of one operation more
 
 module _ (d : Delays) where
-  abbrev dest : Result → Dest
-  dest r = record { reg = r.register; delay = delay_of d r.opcode r.register }
+  abbrev made_of : Result → Dest
+  made_of r = record { reg = r.register; delay = delay_of d r.opcode r.register }
 
-  dests_in_lem : (r o : ℕ) (more : List Result) → map dest (result_in r o more) ≡ made r (delay_of d o r) ++ map dest more
+  dests_in_lem : (r o : ℕ) (more : List Result) → map made_of (result_in r o more) ≡ made r (delay_of d o r) ++ map made_of more
   dests_in_lem r o more = by (eqb r 0)
     where
-      by : (b : Bool) → map dest (pick b more (record { register = r; opcode = o } ∷ more)) ≡ pick b [] (record { reg = r; delay = delay_of d o r } ∷ []) ++ map dest more
+      by : (b : Bool) → map made_of (pick b more (record { register = r; opcode = o } ∷ more)) ≡ pick b [] (record { reg = r; delay = delay_of d o r } ∷ []) ++ map made_of more
       by true = refl
       by false = refl
 

@@ -1,5 +1,6 @@
 pub mod Laid
 pub mod Keeping
+pub mod Longest
 pub mod Naming
 pub mod Stamps
 pub mod Soon

@@ -1,18 +1,15 @@
 -- Laws of stamps: how they grow, and what they say of the instruction that left them last.
 use mathlib.Core.Path.{◌≡◌, refl, sym, ◌∙◌}
-use mathlib.Core.Logic.{⊎_elim}
 use mathlib.Core.Bool.{Bool, true, false, ◌||◌}
 use mathlib.Core.List.{List, ◌++◌}
-use Prim.Native.Nat.{ℕ, zero, suc, ◌+◌, ◌<◌}
-use native.Mathlib.Nat.{eq-or-lt_of_le}
+use Prim.Native.Nat.{ℕ, zero, suc}
 use native.Mathlib.Omega.{arith}
-use lib.Dec.{eqb, ltb}
-use lib.ListN.{length, get_or, set, replicate, length-set}
-use lib.Seq.{get_or-set_same, get_or-set_other}
-use borrow.Author.Tests.{eqb-true, eqb-false, eq-eqb, ne_eqb, ltb-true, lt-ltb}
+use lib.Dec.{eqb}
+use lib.ListN.{get_or, replicate}
+use borrow.Author.Tests.{eq-eqb, ne_eqb}
 use Rattle.word.specs.Choice.{pick}
 use Rattle.word.specs.Lists.{any, member}
-use Rattle.word.proofs.Choice.{bool_same, never_both, or_true, or_right}
+use Rattle.word.proofs.Choice.{never_both}
 use Rattle.isa.specs.Program.{operations_at}
 use Rattle.isa.specs.Touch.{reads, destinations}
 use Rattle.schedule.specs.Stamps.{names, Stamped}
@@ -26,36 +23,8 @@ pick_or false false n m = refl
 
 -- ---- more stamps
 
-pub stamped_none : {l : List ℕ} (n : ℕ) → length l ≡ 288 → Stamped (λ r. false) n l l
-stamped_none n h = record { size = h; each = λ r. refl }
-
-set_at : (l : List ℕ) (k n r : ℕ) → k < length l → get_or (set l k n) r 0 ≡ pick (eqb r k) n (get_or l r 0)
-set_at l k n r h = by (eqb r k) refl
-  where
-    by : (b : Bool) → eqb r k ≡ b → get_or (set l k n) r 0 ≡ pick b n (get_or l r 0)
-    by true e = rw (eqb-true r k e) (get_or-set_same l k n 0 h)
-    by false e = get_or-set_other l k r n 0 (eqb-false r k e)
-
-module _ {f : ℕ → Bool} {n : ℕ} {old new : List ℕ} (h : Stamped f n old new) where
-  pub stamped_one : (k : ℕ) → k < 288 → Stamped (λ r. f r || eqb r k) n old (set new k n)
-  stamped_one k b =
-      record {
-        size = simp length-set h.size;
-        each = λ r. rw (set_at new k n r (omega (arith, h.size)), h.each r) (pick_or (f r) (eqb r k) n (get_or old r 0));
-      }
-
-  pub stamped_more : {g : ℕ → Bool} {newer : List ℕ} → Stamped g n new newer → Stamped (λ r. f r || g r) n old newer
-  stamped_more {g} k = record { size = k.size; each = λ r. rw (k.each r, h.each r) (pick_or (f r) (g r) n (get_or old r 0)) }
-
--- those below one more
-below_more : (q r : ℕ) → ltb q r || eqb q r ≡ ltb q (r + 1)
-below_more q r =
-    bool_same _ _
-    (λ h. ⊎_elim (λ e. lt-ltb q (r + 1) (omega (arith, ltb-true q r e))) (λ e. lt-ltb q (r + 1) (omega (arith, eqb-true q r e))) (or_true (ltb q r) (eqb q r) h))
-    (λ h. ⊎_elim (λ (e : q ≡ r). or_right (ltb q r) (eq-eqb q r e)) (λ b. rw (lt-ltb q r b)) (eq-or-lt_of_le (omega (arith, ltb-true q (r + 1) h))))
-
-pub stamped_below : {n : ℕ} {old new : List ℕ} (r : ℕ) → r < 288 → Stamped (λ q. ltb q r) n old new → Stamped (λ q. ltb q (r + 1)) n old (set new r n)
-stamped_below r b h = let more = stamped_one h r b in record { size = more.size; each = λ q. rw (← below_more q r) (more.each q) }
+pub stamped_more : {f g : ℕ → Bool} {n : ℕ} {old new newer : List ℕ} → Stamped f n old new → Stamped g n new newer → Stamped (λ r. f r || g r) n old newer
+stamped_more {f} {g} {n} {old} h k = record { size = k.size; each = λ r. rw (k.each r, h.each r) (pick_or (f r) (g r) n (get_or old r 0)) }
 
 -- ---- what a stamp says
 

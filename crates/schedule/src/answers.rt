@@ -2,22 +2,23 @@
 ghost use Rattle.std.specs.Prelude.{◌≡◌};
 ghost use Rattle.schedule.specs.Answer.{verdict_answer};
 
-use crate::Verdict;
+use crate::TooSoon;
 use loader::Answer;
 
-pub fn of_verdict(v: Verdict) -> Answer
+// A function: neither Answer nor Result is of this crate, so no From may be written between them.
+pub fn of_verdict(v: Result<(), TooSoon>) -> Answer
     ensures { result ≡ verdict_answer v }
 {
     match v {
-        Verdict::Good => Answer {
+        Ok(()) => Answer {
             number: 0,
             count: 0,
             place: 0,
         },
-        Verdict::TooSoon(p, q) => Answer {
+        Err(soon) => Answer {
             number: 9,
-            count: p.0 as u64,
-            place: q.0 as u64,
+            count: soon.producer.0 as u64,
+            place: soon.consumer.0 as u64,
         },
     }
 }

@@ -1,5 +1,5 @@
 // Which registers an instruction reads or writes: it leaves its stamp on them, one more than its place.
-ghost use Rattle.std.specs.Prelude.{◌≡◌, ◌&&◌, map, suc, ◌^◌, ◌<◌, eqb, ltb, length, get_or};
+ghost use Rattle.std.specs.Prelude.{◌≡◌, ◌&&◌, map, suc, ◌^◌, ◌<◌, eqb, ltb, get_or};
 ghost use Rattle.word.specs.Bytes.{words};
 ghost use Rattle.word.specs.Lists.{any};
 ghost use Rattle.isa.specs.Control.{reads_every};
@@ -13,24 +13,18 @@ use isa::{Op, Place, Slot, Way};
 
 // Call and return read every register.
 fn stamp_every(w: Way, n: usize, stamps: &mut [usize; 288])
-    requires { length stamps.old ≡ 288 }
     ensures { Stamped (λ r. reads_every w && ltb r 288) n stamps.old stamps.new }
 {
-    if !reads_every(w) {
-        return;
-    }
-    for r in 0..288 {
-        stamps[r] = n;
+    if reads_every(w) {
+        stamps.fill(n);
     }
 }
 
 fn stamp(o: Op, n: usize, stamps: &mut [usize; 288])
-    requires registers { Registers o }
-    requires stamps_len { length stamps.old ≡ 288 }
+    requires { Registers o }
     ensures { Stamped (λ r. names r o) n stamps.old stamps.new }
 {
-    let way = o.way;
-    stamp_every(way, n, stamps);
+    stamp_every(o.way, n, stamps);
     stamps[o.s1 as usize] = n;
     stamps[o.s2 as usize] = n;
     stamps[o.b as usize] = n;
@@ -42,7 +36,7 @@ fn stamp(o: Op, n: usize, stamps: &mut [usize; 288])
 // The stamps of the instruction at a place.
 pub fn stamp_touched(stretch: &[u8], at: Place, stamps: &mut [usize; 288])
     requires decodable { Decodable (words stretch.now) }
-    requires at_bound { (at.0 < 2 ^ 63) × (length stamps.old ≡ 288) }
+    requires at_bound { at.0 < 2 ^ 63 }
     ensures { Stamped (λ r. any (names r) (map operation (spots (words stretch.now)))) (suc at.0) stamps.old stamps.new }
 {
     let n = at.0 + 1;

@@ -4,6 +4,7 @@ use mathlib.Core.Bool.{Bool, true, false}
 use mathlib.Core.List.{List, ◌∷◌, ◌++◌}
 use mathlib.Core.Option.{Option, none, some}
 use Prim.Native.Nat.{ℕ}
+use Rattle.std.specs.Prelude as code
 use Rattle.tokens.specs.Tokens.{Token, Word, Mark}
 use Rattle.tokens.proofs.Ways.{only}
 use Rattle.expressions.specs.Grammar.{Ends}
@@ -15,9 +16,9 @@ use Rattle.source.specs.Reader.{starts_colon, label_in, behind, wrong, ends, end
 -- ---- the label
 
 -- an operation's first word is its cluster, and no colon stands behind that
-no_colon : (from : Option ℕ) (w : List ℕ) (ts us : List Token) → starts_colon ((spell_from from ++ Word w ∷ ts) ++ us) ≡ false
-no_colon none w ts us = refl
-no_colon (some c) w ts us = refl
+no_colon : (from : code.Option ℕ) (w : List ℕ) (ts us : List Token) → starts_colon ((spell_from from ++ Word w ∷ ts) ++ us) ≡ false
+no_colon code.None w ts us = refl
+no_colon (code.Some c) w ts us = refl
 
 unlabelled : (o : Option Operation) (e : Bool) → label_in (spell_one o ++ spell_end e) ≡ none
 unlabelled none false = refl
@@ -42,9 +43,9 @@ end_of_lem false = refl
 end_of_lem true = refl
 
 -- an operation has two tokens, so it is no end
-no_end_lem : (from : Option ℕ) (v w : List ℕ) (ts us : List Token) → end_of (Word v ∷ ((spell_from from ++ Word w ∷ ts) ++ us)) ≡ wrong
-no_end_lem none v w ts us = refl
-no_end_lem (some c) v w ts us = refl
+no_end_lem : (from : code.Option ℕ) (v w : List ℕ) (ts us : List Token) → end_of (Word v ∷ ((spell_from from ++ Word w ∷ ts) ++ us)) ≡ wrong
+no_end_lem code.None v w ts us = refl
+no_end_lem (code.Some c) v w ts us = refl
 
 may_end : (e : Bool) → Ends (spell_end e)
 may_end false = record { no_sign = refl; no_star = refl }

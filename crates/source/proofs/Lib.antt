@@ -1,6 +1,4 @@
-pub mod Names
 pub mod Cutting
-pub mod Tokens
 pub mod Heard
 pub mod Walks
 pub mod Places

@@ -1,11 +1,10 @@
 -- The values of labels.
-use Rattle.std.specs.Prelude.{Bool, false, List, [], ◌∷◌, ℕ, eqb}
+use Rattle.std.specs.Prelude.{Bool, false, List, [], ◌∷◌, ℕ, eqb, Err}
 use Rattle.std.proofs.Math.Option.{Option, none, some}
 use Rattle.word.specs.Choice.{pick}
 use Rattle.tokens.specs.Tokens.{same}
-use Rattle.values.specs.Values.{within}
-use Rattle.values.specs.declared.Value.{Value}
-use Rattle.values.specs.declared.Value.TheVariants.{Missing}
+use Rattle.values.specs.Values.{within, Value}
+use Rattle.values.specs.declared.Fault.TheVariants.{Missing}
 use Rattle.source.specs.Heard.{Heard, says, unread}
 use Rattle.source.specs.Walk.{Walk, start, step}
 
@@ -32,7 +31,7 @@ index_from w [] name = none
 index_from w (h ∷ hs) name = pick (gives name h) (some (next w (h ∷ hs))) (index_from (step w h) hs name)
 
 abbrev pub valued : Option ℕ → Value
-valued none = Missing
+valued none = Err Missing
 valued (some n) = within n 0
 
 abbrev pub value_of : List Heard → List ℕ → Value

@@ -4,4 +4,5 @@ pub mod Walk
 pub mod Labels
 pub mod Reader
 pub mod Seek
+pub mod Each
 pub mod Promise

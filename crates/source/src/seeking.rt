@@ -4,14 +4,14 @@ ghost use Rattle.source.specs.Grammar.{lines_of};
 ghost use Rattle.source.specs.Labels.{next};
 ghost use Rattle.source.specs.Seek.{walk_of, hear_from, seek};
 
-use crate::reading::{gives, line_length, read};
+use crate::each_line::Lines;
 use crate::walking::{Walk, step};
 
+// The place of the line where a label is first given, and its value.
 #[derive(Clone, Copy)]
-pub enum Seen {
-    Nowhere,
-    // the place of its line, and its value
-    At(usize, usize),
+pub struct Given {
+    pub place: usize,
+    pub value: usize,
 }
 
 // The index of the instruction that comes next, for a label on the line at `from`.
@@ -19,39 +19,30 @@ fn next_from(text: &[u8], from: usize, w: Walk) -> usize
     requires { (from ≤ length text.now) × (w.count ≤ from * 2) }
     ensures { result ≡ next (walk_of w) (hear_from text.now from) }
 {
-    let mut at = from;
     let mut v = w;
-    while 0 < v.opened {
-        let n = line_length(&text[at..]);
-        let end = at + n;
-        v = step(v, read(&text[at..end]));
-        if end == text.len() {
+    for (_, l) in Lines::from_place(text, from) {
+        if v.opened == 0 {
             return v.count;
         }
-        at = end + 1;
+        v = step(v, l.line);
     }
     v.count
 }
 
 // Where the label of that name is first given, on the line at `from` or below.
-pub fn search(text: &[u8], from: usize, w: Walk, name: &[u8]) -> Seen
+pub fn search(text: &[u8], from: usize, w: Walk, name: &[u8]) -> Option<Given>
     requires { (from ≤ length text.now) × (w.count ≤ from * 2) }
     ensures { result ≡ seek (walk_of w) from (lines_of (drop from text.now)) name.now }
 {
-    let mut at = from;
     let mut v = w;
-    while at <= text.len() {
-        let n = line_length(&text[at..]);
-        let end = at + n;
-        let l = read(&text[at..end]);
-        if gives(&text[at..end], l, name) {
-            return Seen::At(at, next_from(text, at, v));
+    for (place, l) in Lines::from_place(text, from) {
+        if l.gives(name) {
+            return Some(Given {
+                place,
+                value: next_from(text, place, v),
+            });
         }
-        if end == text.len() {
-            return Seen::Nowhere;
-        }
-        v = step(v, l);
-        at = end + 1;
+        v = step(v, l.line);
     }
-    Seen::Nowhere
+    None
 }

@@ -3,12 +3,14 @@ use mathlib.Core.Path.{◌≡◌, refl}
 use mathlib.Core.List.{List}
 use mathlib.Core.Bool.{Bool, true, false, ◌||◌}
 use Prim.Native.Nat.{ℕ, zero, suc, ◌+◌, ◌≤◌, ◌<◌}
+use native.Mathlib.Nat.{add-zero, zero-add}
 use native.Mathlib.Numerals.{add-one}
 use native.Mathlib.Omega.{arith}
 use lib.Dec.{ltb, leb, lit<}
 use lib.ListN.{get_or}
 use borrow.Author.Count.{below_none, below_more}
 use borrow.Author.Tests.{ltb-true, ltb-false}
+use Rattle.std.specs.List.{list_any, range_with_len}
 use Rattle.word.specs.Choice.{pick}
 use Rattle.word.specs.Lists.{any_below}
 use Rattle.isa.specs.Syllable.{is_alu, is_mul, is_mem}
@@ -18,9 +20,21 @@ use Rattle.isa.proofs.Steps.{either_way}
 use Rattle.tables.specs.Table.{clusters_of, unit, delay, outside, bad_units, column, bad_table, table_of}
 use Rattle.tables.specs.Bounds.{Between, Bounds}
 
--- a loop that tests one number more
-pub any_more : (f : ℕ → Bool) (k : ℕ) {x y r : Bool} → r ≡ (x || y) → x ≡ f k → y ≡ any_below f k → r ≡ any_below f (k + 1)
-any_more f k p q e = rw (add-one k, ← q, ← e) p
+or_swap : (x y z : Bool) → x || (y || z) ≡ y || (x || z)
+or_swap true true z = refl
+or_swap true false z = refl
+or_swap false y z = refl
+
+-- a test of the numbers from 0 up is a test of those below n
+snoc : (f : ℕ → Bool) (a n : ℕ) → list_any f (range_with_len a (suc n)) ≡ f (a + n) || list_any f (range_with_len a n)
+snoc f a zero = rw add-zero
+snoc f a (suc n) =
+    let e : a + suc n ≡ a + 1 + n = omega arith in
+    rw (snoc f (a + 1) n, e) (or_swap (f a) (f (a + 1 + n)) (list_any f (range_with_len (a + 1) n)))
+
+pub any_range : (f : ℕ → Bool) (n : ℕ) → list_any f (range_with_len 0 n) ≡ any_below f n
+any_range f zero = refl
+any_range f (suc n) = rw (snoc f 0 n, zero-add, any_range f n)
 
 neither : (a b : Bool) → (a || b) ≡ false → (a ≡ false) × (b ≡ false)
 neither true b e = (e, cc)

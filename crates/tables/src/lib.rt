@@ -6,14 +6,13 @@ ghost use Rattle.word.specs.Choice.{pick};
 ghost use Rattle.word.specs.Lists.{any_below};
 ghost use Rattle.tables.specs.Table.{clusters_of, unit, delay, outside, bad_units, bad_table, column, table_of};
 
-use isa::truth::either;
 use isa::{Delays, Table};
 
 // Byte i, 0 past the end.
 fn byte_at(bytes: &[u8], i: usize) -> u8
     ensures { result ≡ get_or bytes.now i 0 }
 {
-    if i < bytes.len() { bytes[i] } else { 0 }
+    bytes.get(i).copied().unwrap_or(0)
 }
 
 // The j-th number of cluster k; of the delays where k is the count of clusters.
@@ -28,29 +27,24 @@ fn outside(bytes: &[u8], least: u8, most: u8, j: u8, k: u8) -> bool
     ensures { result ≡ outside bytes.now least most (unit bytes.now j k) }
 {
     let x = unit(bytes, j, k);
-    either(x < least, most < x)
+    x < least || most < x
 }
 
 // Whether a number of cluster k breaks its limit.
 fn bad_units(bytes: &[u8], k: u8) -> bool
     ensures { result ≡ bad_units bytes.now k }
 {
-    let width = outside(bytes, 1, 8, 0, k);
-    let alu = outside(bytes, 0, 8, 1, k);
-    let mul = outside(bytes, 0, 4, 2, k);
-    let mem = outside(bytes, 0, 4, 3, k);
-    let copy = outside(bytes, 0, 4, 4, k);
-    either(either(either(either(width, alu), mul), mem), copy)
+    outside(bytes, 1, 8, 0, k)
+        || outside(bytes, 0, 8, 1, k)
+        || outside(bytes, 0, 4, 2, k)
+        || outside(bytes, 0, 4, 3, k)
+        || outside(bytes, 0, 4, 4, k)
 }
 
 fn any_bad_units(bytes: &[u8], clusters: u8) -> bool
     ensures { result ≡ any_below (bad_units bytes.now) clusters }
 {
-    let mut found = false;
-    for k in 0..clusters {
-        found = either(bad_units(bytes, k), found);
-    }
-    found
+    (0..clusters).any(|k| bad_units(bytes, k))
 }
 
 // Whether the j-th delay breaks its limit.
@@ -63,24 +57,19 @@ fn bad_delay(bytes: &[u8], j: u8) -> bool
 fn any_bad_delay(bytes: &[u8]) -> bool
     ensures { result ≡ any_below (λ j. outside bytes.now 1 8 (delay bytes.now j)) 5 }
 {
-    let mut found = false;
-    for j in 0..5 {
-        found = either(bad_delay(bytes, j), found);
-    }
-    found
+    (0..5).any(|j| bad_delay(bytes, j))
 }
 
 // Refusal 1: the table breaks a limit.
+#[tactic(auto, unfolding(crate::specs::Table::bad_table))]
 pub fn breaks(bytes: &[u8]) -> bool
     ensures { result ≡ bad_table bytes.now }
 {
     let clusters = byte_at(bytes, 0);
-    let count = either(clusters < 1, 4 < clusters);
-    let size = bytes.len() != 6 + 5 * clusters as usize;
-    either(
-        either(either(count, size), any_bad_units(bytes, clusters)),
-        any_bad_delay(bytes),
-    )
+    (clusters < 1 || 4 < clusters)
+        || bytes.len() != 6 + 5 * clusters as usize
+        || any_bad_units(bytes, clusters)
+        || any_bad_delay(bytes)
 }
 
 // The j-th delay.
@@ -113,6 +102,7 @@ fn column(bytes: &[u8], j: u8) -> [u8; 4]
     ]
 }
 
+#[tactic(auto, unfolding(crate::specs::Table::table_of))]
 fn delays(bytes: &[u8]) -> Delays
     ensures { result ≡ (table_of bytes.now).delays }
 {
@@ -126,6 +116,7 @@ fn delays(bytes: &[u8]) -> Delays
 }
 
 // What the bytes say, whether or not they keep the limits.
+#[tactic(auto, unfolding(crate::specs::Table::table_of))]
 pub fn read(bytes: &[u8]) -> Table
     ensures { result ≡ table_of bytes.now }
 {

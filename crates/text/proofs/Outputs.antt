@@ -1,50 +1,44 @@
 -- Laws of the whole output.
-use mathlib.Core.Path.{◌≡◌, refl, sym, ap, ◌∙◌, subst}
+use mathlib.Core.Path.{◌≡◌, refl, sym, ap, ◌∙◌}
+use mathlib.Core.Bool.{true, false, ◌||◌}
+use lib.Dec.{eqb}
 use mathlib.Core.List.{List, [], ◌∷◌, ◌++◌, append-nil}
-use Prim.Native.Nat.{ℕ, zero, suc, ◌+◌, ◌-◌, ◌*◌, ◌≤◌, ◌<◌}
-use native.Mathlib.Nat.{zero-add, sub-zero}
+use Prim.Native.Nat.{ℕ, zero, suc, ◌≤◌, ◌<◌}
 use native.Mathlib.Omega.{arith}
-use lib.ListN.{length, take, drop, replicate, length-append, length-replicate}
-use lib.Seq.{sets, sets-eq, length-sets}
+use lib.ListN.{length, take, replicate}
 use borrow.Author.Tests.{lt-ltb, le-ltb}
-use Rattle.word.proofs.Bytes.{sets_append}
+use Rattle.std.specs.Prelude.{Ok, Err}
+use Rattle.arrayvec.specs.ArrayVec.{ArrayVec}
 use Rattle.call.specs.Run.{Call, Outcome, run_outcome}
-use Rattle.text.specs.Rows.{fields}
+use Rattle.lines.specs.declared.reading.BadLine.{BadLine}
+use Rattle.lines.specs.declared.reading.Text.{Text}
+use Rattle.lines.specs.Lines as lines
 use Rattle.lines.specs.Lines.{newline, pieces, first_line, Read, Good, from_first, read_text}
-use Rattle.lines.specs.Items.{said_in, held, Kept}
-use Rattle.text.specs.Output.{Unread, Loads, Runs, call_of, too_much, ending_of, printed_of, printed, shown_of, Put}
-use Rattle.text.specs.declared.Shown.{Shown}
-use Rattle.lines.specs.declared.reading.Reading.{Reading}
-use Rattle.lines.specs.declared.reading.Sizes.{Sizes}
-use Rattle.text.proofs.Puts.{fields_length}
+use Rattle.lines.specs.Items.{reading_of}
+use Rattle.text.specs.Output.{Ending, Unread, Runs, ending_answer, ending_rows, Loads, said_in, call_of, too_much, ending_of, printed_of, printed, shown_of}
+use Rattle.text.specs.Rows.{answer_row, register_rows}
 
--- line 1 alone
-module _ (before : List ℕ) (number : ℕ) {c p C P : ℕ} (s : c ≡ C) (t : p ≡ P) where
-  pub alone : {after : List ℕ} → after ≡ sets before 0 (fields number 8 c p) → Put before after 21 (fields number 8 C P ++ [])
-  alone e =
-      record {
-        out = rw (append-nil, ← s, ← t) e;
-        count = rw append-nil (sym (fields_length number 8 C P));
-        fits = omega arith;
-      }
+-- ---- line 1, and the rows after it
 
-  -- line 1, and rows after it
-  pub followed_by : {mid after : List ℕ} (rows : List ℕ) {r : ℕ} → mid ≡ sets before 0 (fields number 8 c p) → after ≡ sets mid 21 rows
-      → r ≡ 21 + length rows → r ≤ 4341 → Put before after r (fields number 8 C P ++ rows)
-  followed_by rows e f l m =
-      record {
-        out = f ∙ rw (e, ← s, ← t) (sets_append before 0 (fields number 8 c p) rows (omega (arith, fields_length number 8 c p)));
-        count = omega (arith, length-append (fields number 8 C P) rows, fields_length number 8 C P);
-        fits = m;
-      }
+module _ (e : Ending) {first : List ℕ} (f : first ≡ answer_row (ending_answer e)) where
+  pub alone : ending_rows e ≡ [] → first ≡ printed_of e
+  unfolding printed_of
+  alone h = f ∙ rw (h, append-nil)
 
--- what a run left, printed
-pub as_run : {before after : List ℕ} {r : ℕ} (number : ℕ) (image memory room : List ℕ) {c d : Call}
-    → (let o : Outcome = record { result = number; state = image; memory = memory; room = room } in o ≡ run_outcome c) → c ≡ d
-    → Put before after r (printed_of (Runs (record { result = number; state = image; memory = []; room = room })))
-    → Put before after r (printed_of (Runs (run_outcome d)))
-unfolding printed_of
-as_run {before} {after} {r} number image memory room e f h = subst (λ (x : Outcome). Put before after r (printed_of (Runs x))) (e ∙ ap run_outcome f) h
+  pub followed_by : {all rows : List ℕ} → all ≡ first ++ rows → ending_rows e ≡ rows → all ≡ printed_of e
+  unfolding printed_of
+  followed_by g h = g ∙ rw (f, h)
+
+-- a run that paused or stopped, and another
+module _ (o : Outcome) where
+  pub with_registers : eqb o.result 0 || eqb o.result 255 ≡ true → ending_rows (Runs o) ≡ register_rows o.state
+  with_registers e = rw e
+
+  pub without_registers : eqb o.result 0 || eqb o.result 255 ≡ false → ending_rows (Runs o) ≡ []
+  without_registers e = rw e
+
+pub as_shown : (v : ArrayVec ℕ) (text : List ℕ) → v.items ≡ printed text → v ≡ shown_of text
+as_shown v text e = λ i. record { items = e i }
 
 -- ---- zeros
 
@@ -56,60 +50,55 @@ take_zeros zero n h = refl
 take_zeros (suc m) zero h = absurd (omega arith)
 take_zeros (suc m) (suc n) h = ap (λ (l : List ℕ). 0 ∷ l) (take_zeros m n (omega arith))
 
-drop_zeros : (m n : ℕ) → drop m (zeros n) ≡ zeros (n - m)
-drop_zeros zero n = rw sub-zero
-drop_zeros (suc m) zero = let e : 0 - suc m ≡ 0 = omega arith in rw e
-drop_zeros (suc m) (suc n) = let e : suc n - suc m ≡ n - m = omega arith in rw e (drop_zeros m n)
-
-pub filled : (n : ℕ) (p : List ℕ) → length p ≤ n → sets (zeros n) 0 p ≡ p ++ zeros (n - length p)
-filled n p h =
-    sets-eq p (zeros n) 0 (omega (arith, length-replicate {A = ℕ} n 0))
-    ∙ ap (λ (l : List ℕ). p ++ l) (ap (λ (k : ℕ). drop k (zeros n)) (zero-add (length p)) ∙ drop_zeros (length p) n)
-
 -- the call of a run, as its arrays hold it
 pub as_call : (table program : List ℕ) (memory n : ℕ) → memory ≤ 16384
-    → (let c : Call = record { table = table; program = program; state = zeros 2888; memory = take (memory - 0) (zeros 16384); landing = []; n = n; room = zeros 12 } in
+    → (let c : Call = record { table = table; program = program; state = zeros 2888; memory = take memory (zeros 16384); landing = []; n = n; room = zeros 12 } in
     c ≡ call_of (record { table = table; memory = memory; n = n; program = program }))
 as_call table program memory n h =
-    let e : take (memory - 0) (zeros 16384) ≡ zeros memory = ap (λ (k : ℕ). take k (zeros 16384)) (sub-zero memory) ∙ take_zeros memory 16384 h in
+    let e : take memory (zeros 16384) ≡ zeros memory = take_zeros memory 16384 h in
     λ k. record { table = table; program = program; state = zeros 2888; memory = e k; landing = []; n = n; room = zeros 12 }
 
-pub shown_as : (text bytes : List ℕ) (n : ℕ) → Put (zeros 4341) bytes n (printed text)
-    → (let s : Shown = record { bytes = bytes; length = n } in s ≡ shown_of text)
-shown_as text bytes n h =
-    let l : length (printed text) ≤ 4341 = let e = h.count in let f = h.fits in omega arith in
-    λ k. record { bytes = (h.out ∙ filled 4341 (printed text) l) k; length = h.count k }
-
-pub shown_long : (text bytes : List ℕ) (n : ℕ) → Put (zeros 4341) bytes n (printed text) → length bytes ≡ 4341
-shown_long text bytes n h = ap length h.out ∙ length-sets (zeros 4341) 0 (printed text) ∙ length-replicate {A = ℕ} 4341 0
+-- what a run left, printed
+pub as_run : {items : List ℕ} (number : ℕ) (image memory room : List ℕ) {c d : Call}
+    → (let o : Outcome = record { result = number; state = image; memory = memory; room = room } in o ≡ run_outcome c) → c ≡ d
+    → items ≡ printed_of (Runs (record { result = number; state = image; memory = []; room = room }))
+    → items ≡ printed_of (Runs (run_outcome d))
+unfolding printed_of
+as_run number image memory room e f h = h ∙ ap (λ (o : Outcome). printed_of (Runs o)) (e ∙ ap run_outcome f)
 
 -- ---- what reading found
 
-pub too_long : (text : List ℕ) → 32768 < length text → printed_of (Unread 0) ≡ printed text
-unfolding printed read_text
-too_long text h = rw (lt-ltb 32768 (length text) h)
+module _ (text : List ℕ) where
+  pub too_long : 32768 < length text → printed text ≡ printed_of (Unread 0)
+  unfolding printed read_text
+  too_long h = rw (lt-ltb 32768 (length text) h)
 
-pub as_read : (text table program : List ℕ) {r s : Reading} → length text ≤ 32768 → r ≡ s
-    → held r table program ≡ from_first (first_line 2 (pieces newline text)) → printed_of (ending_of (held s table program)) ≡ printed text
-unfolding printed read_text
-as_read text table program h e f =
-    rw (le-ltb 32768 (length text) h)
-    (ap (λ (x : Reading). printed_of (ending_of (held x table program))) (sym e) ∙ ap (λ (x : Read). printed_of (ending_of x)) f)
+  as_read : length text ≤ 32768 → printed text ≡ printed_of (ending_of (from_first (first_line 2 (pieces newline text))))
+  unfolding printed read_text
+  as_read h = rw (le-ltb 32768 (length text) h)
 
-pub kept : {r : Reading} (s : Reading) → r ≡ s → Kept r → Kept s
-kept s e h = rw e at h
+  by_line : (r : Read) (e : BadLine) → Err e ≡ reading_of r → r ≡ lines.Bad e.0
+  by_line (lines.Bad i) e f = cc
+  by_line (Good s) e f = cc
 
-module _ {before after : List ℕ} {r : ℕ} (s : Sizes) (table program : List ℕ) where
-  pub as_refused : 16384 < s.memory → Put before after r (printed_of (Loads (too_much (take (s.table - 0) table) (take (s.program * 4 - 0) program))))
-      → Put before after r (printed_of (ending_of (Good (said_in s table program))))
-  as_refused h p = rw (lt-ltb 16384 s.memory h) (simp sub-zero at p)
+  by_text : (r : Read) (t : Text) → Ok t ≡ reading_of r
+      → r ≡ Good (said_in t)
+  by_text (lines.Bad i) t f = cc
+  by_text (Good s) t f =
+      let e : t ≡ record { table = record { items = s.table }; memory = s.memory; n = s.n; program = record { items = s.program } } = cc in
+      ap (λ (u : Text). Good (said_in u)) (sym e)
 
-  pub as_ran : s.memory ≤ 16384
-      → Put before after r (printed_of (Runs (run_outcome (call_of (record {
-        table = take (s.table - 0) table;
-        memory = s.memory;
-        n = s.n;
-        program = take (s.program * 4 - 0) program;
-      })))))
-      → Put before after r (printed_of (ending_of (Good (said_in s table program))))
-  as_ran h p = rw (le-ltb 16384 s.memory h) (simp sub-zero at p)
+  pub bad_line : (e : BadLine) → length text ≤ 32768 → Err e ≡ reading_of (from_first (first_line 2 (pieces newline text)))
+      → printed text ≡ printed_of (Unread e.0)
+  bad_line e h f = as_read h ∙ ap (λ (r : Read). printed_of (ending_of r)) (by_line (from_first (first_line 2 (pieces newline text))) e f)
+
+  good_text : (t : Text) → length text ≤ 32768 → Ok t ≡ reading_of (from_first (first_line 2 (pieces newline text)))
+      → printed text ≡ printed_of (ending_of (Good (said_in t)))
+  good_text t h f = as_read h ∙ ap (λ (r : Read). printed_of (ending_of r)) (by_text (from_first (first_line 2 (pieces newline text))) t f)
+
+  module _ (t : Text) (h : length text ≤ 32768) (f : Ok t ≡ reading_of (from_first (first_line 2 (pieces newline text)))) where
+    pub refused_text : 16384 < t.memory → printed text ≡ printed_of (Loads (too_much t.table.items t.program.items))
+    refused_text m = rw (lt-ltb 16384 t.memory m) at (good_text t h f)
+
+    pub run_text : t.memory ≤ 16384 → printed text ≡ printed_of (Runs (run_outcome (call_of (said_in t))))
+    run_text m = rw (le-ltb 16384 t.memory m) at (good_text t h f)

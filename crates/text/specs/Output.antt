@@ -1,19 +1,17 @@
 -- The whole output of the text program, for any input.
-use Rattle.std.specs.Prelude.{◌≡◌, ◌||◌, List, [], ◌++◌, ℕ, ◌-◌, ◌≤◌, eqb, ltb, length, replicate}
-use Rattle.std.proofs.lemmas.List.Edits.{sets}
+use Rattle.std.specs.Prelude.{◌||◌, List, [], ◌++◌, ℕ, eqb, ltb, replicate, Err}
+use Rattle.arrayvec.specs.ArrayVec.{ArrayVec}
 use Rattle.word.specs.Choice.{pick}
 use Rattle.word.specs.Bytes.{word_at}
 use Rattle.refusals.specs.Broken.{bad_program_length}
-use Rattle.loader.specs.Load.{◌otherwise◌, refused_if, loaded_with}
+use Rattle.loader.specs.Load.{Loaded, ◌otherwise◌, refused_if, loaded_with}
 use Rattle.loader.specs.Answer.{answer, load_answer}
 use Rattle.loader.specs.declared.Answer.{Answer}
-use Rattle.loader.specs.declared.Loaded.{Loaded}
-use Rattle.loader.specs.declared.Loaded.TheVariants.{Refused}
 use Rattle.loader.specs.declared.Refusal.TheVariants.{ProgramLength, MemoryLength}
 use Rattle.call.specs.Run.{Call, Outcome, run_outcome}
+use Rattle.lines.specs.declared.reading.Text.{Text}
 use Rattle.lines.specs.Lines.{Said, Read, Bad, Good, read_text}
 use Rattle.text.specs.Rows.{answer_row, register_rows}
-use Rattle.text.specs.declared.Shown.{Shown}
 
 -- what an input comes to: a line that is bad or missing, a refusal, or a run
 pub data Ending : Type 0 where
@@ -33,6 +31,9 @@ ending_rows (Unread line) = []
 ending_rows (Loads l) = []
 ending_rows (Runs o) = pick (eqb o.result 0 || eqb o.result 255) (register_rows o.state) []
 
+abbrev pub said_in : Text → Said
+said_in t = record { table = t.table.items; memory = t.memory; n = t.n; program = t.program.items }
+
 -- "Memory length, filled with zero. No landing bytes; start at 0, all zero."
 abbrev pub call_of : Said → Call
 call_of s =
@@ -48,7 +49,7 @@ call_of s =
 
 -- "Memory length, here at most 16,384 (else 2, place 1)": after 1 and "No fourth line is 2, place 0", before all else
 abbrev pub too_much : List ℕ → List ℕ → Loaded
-too_much table program = loaded_with (refused_if (bad_program_length program) ProgramLength otherwise Refused MemoryLength) table program
+too_much table program = loaded_with (refused_if (bad_program_length program) ProgramLength otherwise Err MemoryLength) table program
 
 abbrev pub ending_of : Read → Ending
 ending_of (Bad line) = Unread line
@@ -60,13 +61,6 @@ printed_of e = answer_row (ending_answer e) ++ ending_rows e
 unfoldable pub printed : List ℕ → List ℕ
 printed text = printed_of (ending_of (read_text text))
 
--- the output in a room of 4,341 bytes, line 1 and one line for each of 288 registers, and its length
-abbrev pub shown_of : List ℕ → Shown
-shown_of text =
-    record { bytes = printed text ++ replicate (4341 - length (printed text)) 0; length = length (printed text) }
-
--- an output, put into a room of that size
-pub record Put (before after : List ℕ) (r : ℕ) (output : List ℕ) : Type 0 where
-  pub out : after ≡ sets before 0 output
-  pub count : r ≡ length output
-  pub fits : r ≤ 4341
+-- the output in a room of 4,341 bytes, line 1 and one line for each of 288 registers
+abbrev pub shown_of : List ℕ → ArrayVec ℕ
+shown_of text = record { items = printed text }

@@ -1,17 +1,18 @@
 // The registers of an image, a line for each that is not zero.
-ghost use Rattle.std.specs.Prelude.{◌≡◌, ◌+◌, ◌*◌, ◌≤◌, ◌<◌, length};
-ghost use Rattle.std.proofs.lemmas.List.Edits.{sets};
+ghost use Rattle.std.specs.Prelude.{◌≡◌, ◌+◌, ◌≤◌, ◌<◌, ◌++◌};
+ghost use Rattle.arrayvec.specs.ArrayVec.{array_vec_len};
 ghost use Rattle.vliw.specs.Cell.{landed};
 ghost use Rattle.machine.specs.Image.{cell_in};
 ghost use Rattle.text.specs.Rows.{index_of, register_row, cluster_rows, register_rows};
 
+use crate::Shown;
 use crate::rows::put_fields;
 use machine::image::offset;
 use word::number::word_at;
 
 // The value of register `r` of all 288 once everything has landed.
-fn landed_at(image: &[u8], r: usize) -> u32
-    requires { (length image.now ≡ 2888) × (r < 288) }
+fn landed_at(image: &[u8; 2888], r: usize) -> u32
+    requires { r < 288 }
     ensures { result ≡ landed (cell_in image.now r) }
 {
     let at = offset(r);
@@ -34,42 +35,41 @@ fn index(c: usize, r: usize) -> usize
     }
 }
 
-// The line of register `r` of cluster `c`, at `at`: where the next one goes.
-fn put_register(out: &mut [u8], at: usize, image: &[u8], c: usize, r: usize) -> usize
-    requires { (at + 15 ≤ length out.old) × (length image.now ≡ 2888) × (c < 4) × (r < 72) }
-    ensures { (out.new ≡ sets out.old at (register_row c r (landed (cell_in image.now (index_of c r)))))
-        × (result ≡ at + length (register_row c r (landed (cell_in image.now (index_of c r))))) × (result ≤ at + 15) }
+// The line of register `r` of cluster `c`.
+#[tactic(auto, using(crate::proofs::Puts::register_laws))]
+fn put_register(out: &mut Shown, image: &[u8; 2888], c: usize, r: usize)
+    requires room { array_vec_len out.old + 15 ≤ 4341 }
+    requires register { (c < 4) × (r < 72) }
+    ensures is { out.new.items ≡ out.old.items ++ register_row c r (landed (cell_in image.now (index_of c r))) }
+    ensures fits { array_vec_len out.new ≤ array_vec_len out.old + 15 }
 {
     let v = landed_at(image, index(c, r));
-    if v == 0 {
-        return at;
+    if v != 0 {
+        put_fields(out, c as u64, 2, r as u64, v as u64);
     }
-    put_fields(out, at, c as u64, 2, r as u64, v as u64);
-    at + 15
 }
 
 // The lines of cluster `c`.
-fn put_cluster(out: &mut [u8], at: usize, image: &[u8], c: usize) -> usize
-    requires { (at + 1080 ≤ length out.old) × (length image.now ≡ 2888) × (c < 4) }
-    ensures { (out.new ≡ sets out.old at (cluster_rows image.now c))
-        × (result ≡ at + length (cluster_rows image.now c)) × (result ≤ at + 1080) }
+#[tactic(auto, using(crate::proofs::Puts::each_laws), unfolding(crate::specs::Rows::cluster_rows))]
+fn put_cluster(out: &mut Shown, image: &[u8; 2888], c: usize)
+    requires room { array_vec_len out.old + 1080 ≤ 4341 }
+    requires cluster { c < 4 }
+    ensures is { out.new.items ≡ out.old.items ++ cluster_rows image.now c }
+    ensures fits { array_vec_len out.new ≤ array_vec_len out.old + 1080 }
 {
-    let mut next = at;
     for r in 0..72 {
-        next = put_register(out, next, image, c, r);
+        put_register(out, image, c, r);
     }
-    next
 }
 
 // The lines of all clusters.
-pub fn put_registers(out: &mut [u8], at: usize, image: &[u8]) -> usize
-    requires { (at + 4320 ≤ length out.old) × (length image.now ≡ 2888) }
-    ensures { (out.new ≡ sets out.old at (register_rows image.now))
-        × (result ≡ at + length (register_rows image.now)) × (result ≤ at + 4320) }
+#[tactic(auto, using(crate::proofs::Puts::each_laws), unfolding(crate::specs::Rows::register_rows))]
+pub fn put_registers(out: &mut Shown, image: &[u8; 2888])
+    requires { array_vec_len out.old + 4320 ≤ 4341 }
+    ensures is { out.new.items ≡ out.old.items ++ register_rows image.now }
+    ensures fits { array_vec_len out.new ≤ array_vec_len out.old + 4320 }
 {
-    let mut next = at;
     for c in 0..4 {
-        next = put_cluster(out, next, image, c);
+        put_cluster(out, image, c);
     }
-    next
 }

@@ -2,4 +2,5 @@
 pub mod Views
 pub mod Results
 pub mod Latest
+pub mod Busy
 pub mod Cells

@@ -3,3 +3,4 @@ pub mod Ways
 pub mod Places
 pub mod Found
 pub mod Same
+pub mod Prefixes

@@ -10,7 +10,7 @@ use lib.ListN.{length, take, drop, get_or, take-append-drop, length-drop}
 use lib.Seq.{drop-cons, drop-drop, drop-length, take_all}
 use Rattle.lines.specs.Lines.{every}
 use Rattle.tokens.specs.Tokens.{Word, Mark, is_blank, starts_word, goes_on, first, tokens}
-use Rattle.tokens.proofs.Ways.{blank_tokens, mark_tokens, word_tokens}
+use Rattle.tokens.proofs.Ways.{mark_tokens, word_tokens}
 
 -- a part of a slice that goes to its end
 pub to_end : (line : List ℕ) (at : ℕ) → take (length line - at) (drop at line) ≡ drop at line
@@ -39,9 +39,6 @@ mark_at line p h e f g =
 -- n blanks, and no blank after them
 abbrev pub Skipped : List ℕ → ℕ → Type 0
 Skipped s n = (n ≤ length s) × (tokens s ≡ tokens (drop n s)) × (first is_blank (drop n s) ≡ false)
-
-pub blank_more : (s : List ℕ) (i : ℕ) → i < length s → tokens s ≡ tokens (drop i s) → is_blank (get_or s i 0) ≡ true → tokens s ≡ tokens (drop (i + 1) s)
-blank_more s i p e g = e ∙ (ap tokens (byte_at s i p) ∙ blank_tokens (get_or s i 0) (drop (i + 1) s) g)
 
 pub skipped : (line : List ℕ) (at n : ℕ) → at ≤ length line → Skipped (take (length line - at) (drop at line)) n
     → (at + n ≤ length line) × (tokens (drop at line) ≡ tokens (drop (at + n) line)) × (first is_blank (drop (at + n) line) ≡ false)

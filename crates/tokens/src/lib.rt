@@ -7,7 +7,8 @@ ghost use Rattle.tokens.specs.Tokens.{is_word_byte, is_blank, starts_word, goes_
 ghost use Rattle.tokens.specs.Reading.{next_tokens, Onwards};
 ghost use Rattle.tokens.specs.Promise.{OneWay};
 
-#[derive(Clone, Copy)]
+// The next token of a line, if one is left: an Option of tokens would only nest these three cases.
+#[derive(Clone, Copy, PartialEq, Eq)]
 pub enum Next {
     End,
     // from, to
@@ -19,30 +20,29 @@ pub enum Next {
 fn is_word_byte(b: u8) -> bool
     ensures { result ≡ is_word_byte b }
 {
-    ((((48 <= b) & (b <= 57)) | ((((65 <= b) & (b <= 90)) | ((97 <= b) & (b <= 122))) | (b == 95)))
-        | (b == 63))
-        | (b == 46)
+    matches!(b, b'0'..=b'9' | b'A'..=b'Z' | b'a'..=b'z' | b'_' | b'?' | b'.')
 }
 
 fn is_blank(b: u8) -> bool
     ensures { result ≡ is_blank b }
 {
-    ((b == 32) | (b == 9)) | (b == 13)
+    matches!(b, b' ' | b'\t' | b'\r')
 }
 
 fn starts_word(b: u8) -> bool
     ensures { result ≡ starts_word b }
 {
-    (is_word_byte(b) | (b == 36)) | (b == 59)
+    is_word_byte(b) || matches!(b, b'$' | b';')
 }
 
 fn goes_on(b: u8, c: u8) -> bool
     ensures { result ≡ goes_on b c }
 {
-    if b == 59 {
-        return c == 59;
+    if b == b';' {
+        c == b';'
+    } else {
+        is_word_byte(c)
     }
-    is_word_byte(c)
 }
 
 // How many blanks a line begins with.
@@ -50,14 +50,7 @@ fn blanks(s: &[u8]) -> usize
     ensures { (result ≤ length s.now) × (tokens s.now ≡ tokens (drop result s.now))
         × (first is_blank (drop result s.now) ≡ false) }
 {
-    let mut i = 0;
-    while i < s.len() {
-        if !is_blank(s[i]) {
-            return i;
-        }
-        i += 1;
-    }
-    i
+    s.iter().position(|b| !is_blank(*b)).unwrap_or(s.len())
 }
 
 // How many bytes go on from b.
@@ -65,14 +58,7 @@ fn run_length(b: u8, s: &[u8]) -> usize
     ensures { (result ≤ length s.now) × (every (goes_on b) (take result s.now) ≡ true)
         × (first (goes_on b) (drop result s.now) ≡ false) }
 {
-    let mut i = 0;
-    while i < s.len() {
-        if !goes_on(b, s[i]) {
-            return i;
-        }
-        i += 1;
-    }
-    i
+    s.iter().position(|c| !goes_on(b, *c)).unwrap_or(s.len())
 }
 
 // The token at `at`.
@@ -81,17 +67,13 @@ pub fn token_at(line: &[u8], at: usize) -> Next
     ensures { (tokens (drop at line.now) ≡ next_tokens line.now result) × Onwards line.now at result }
 {
     let p = at + blanks(&line[at..]);
-    if p == line.len() {
+    if p == line.len() || line[p] == b'#' {
         return Next::End;
     }
     let b = line[p];
-    if b == 35 {
-        return Next::End;
-    }
     let q = p + 1;
     if starts_word(b) {
-        let n = run_length(b, &line[q..]);
-        return Next::Word(p, q + n);
+        return Next::Word(p, q + run_length(b, &line[q..]));
     }
     Next::Mark(b, q)
 }

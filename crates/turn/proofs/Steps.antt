@@ -16,8 +16,9 @@ use Rattle.isa.specs.Program.{is_start, operations_at, following}
 use Rattle.isa.specs.Touch.{dests}
 use Rattle.isa.specs.declared.Op.{Op}
 use Rattle.isa.specs.declared.Delays.{Delays}
-use Rattle.memory.specs.Memory.{Store, store, any_share}
-use Rattle.memory.specs.declared.FirstFault.TheVariants.{None, First}
+use Rattle.std.specs.Prelude.{None, Some}
+use Rattle.memory.specs.Memory.{store, any_share}
+use Rattle.memory.specs.declared.Store.{Store}
 use Rattle.machine.specs.Link.{Memory, Change, memory_of, storing, change}
 use Rattle.machine.specs.Instruction.{Fired, fire, result_values, stores_of, fault_of, Next, stops, goes_on, out_by, acts, instruction_of}
 use Rattle.machine.specs.Instruction.{at as goes_to}
@@ -70,7 +71,7 @@ module _ (d : Delays) (p : List ℕ) (i : ℕ) (l : Registers) (m : Memory) (bs 
       step_lost h = rw (step_is, free, h)
 
       module _ (ls : List Change) (k : ℕ) (on : out ≡ goes_on ls k m.bytes es) where
-        pub step_fault : (f : Fault) → fault_of (length m.bytes) es ≡ First f → stepped ≡ ends (Faulted f) s
+        pub step_fault : (f : Fault) → fault_of (length m.bytes) es ≡ Some f → stepped ≡ ends (Faulted f) s
         step_fault f h = rw (step_is, free, on, h)
 
         module _ (good : fault_of (length m.bytes) es ≡ None) where

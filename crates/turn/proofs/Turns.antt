@@ -1,5 +1,5 @@
 -- Laws of one turn of the run's loop: how it ends from what the pass gathered.
-use mathlib.Core.Path.{◌≡◌, refl, sym, ap, subst, ◌∙◌}
+use mathlib.Core.Path.{◌≡◌, refl, sym, ap, ◌∙◌}
 use mathlib.Core.Logic.{◌≢◌, ⊎_elim}
 use mathlib.Core.Bool.{Bool, true, false, ◌||◌, ◌&&◌, false≢true}
 use mathlib.Core.List.{List, [], ◌∷◌, ◌++◌, map, Memᴰ}
@@ -7,9 +7,8 @@ use Prim.Native.Nat.{ℕ, zero, suc, ◌+◌, ◌/◌, ◌^◌, ◌≤◌, ◌<�
 use native.Mathlib.Nat.{le_refl, le_step}
 use native.Mathlib.Omega.{arith}
 use lib.Dec.{ltb}
-use lib.ListN.{length, get_or, drop}
+use lib.ListN.{length, drop}
 use lib.Seq.{get_or-set_other}
-use borrow.Author.Count.{below_none}
 use borrow.Author.Tests.{ltb-true, ltb-false, ne_eqb, not-true, not-false}
 use Rattle.word.specs.Choice.{pick}
 use Rattle.word.specs.Lists.{any, any_below}
@@ -29,32 +28,32 @@ use Rattle.isa.specs.Program.{spots, is_start, instruction_at, following, operat
 use Rattle.isa.specs.Touch.{dests}
 use Rattle.isa.specs.declared.Op.{Op}
 use Rattle.isa.specs.declared.Delays.{Delays}
+use Rattle.isa.specs.declared.Count.{Count}
 use Rattle.isa.specs.declared.Place.{Place}
 use Rattle.isa.proofs.Instructions.{spots_length, start_inside, following_within}
 use Rattle.isa.proofs.Results.{dests_have}
-use Rattle.memory.specs.Memory.{Store, store, any_share}
-use Rattle.memory.specs.Held.{stores_in, Stores}
-use Rattle.memory.specs.declared.FirstFault.{FirstFault}
-use Rattle.memory.specs.declared.FirstFault.TheVariants.{None, First}
-use Rattle.memory.proofs.Accesses.{stores_none}
+use Rattle.std.specs.Prelude.{Option, None, Some, Result, Ok, Err, ⊤}
+use Rattle.memory.specs.Memory.{store, any_share}
+use Rattle.memory.specs.declared.Store.{Store}
 use Rattle.machine.specs.Link.{Memory, Change, storing, linking, change}
 use Rattle.machine.specs.Instruction.{Fired, fire, result_values, stores_of, fault_of, Next, stops, next_by, goes_on, out_by, acts, instruction_of}
 use Rattle.machine.specs.Instruction.{at as goes_to}
 use Rattle.machine.proofs.Acts.{calls_by}
 use Rattle.machine.proofs.Linking.{by_link, reads_by_link}
-use Rattle.ticks.specs.Ticks.{views, Bank, Freed, dests_in, values_in, Results, Clear}
+use Rattle.ticks.specs.Ticks.{register_at, views, Bank, Freed, dests_in, values_in, Clear}
+use Rattle.ticks.specs.declared.Register.{Register}
 use Rattle.ticks.proofs.Views.{views_aged, view_busy, view_late}
 use Rattle.ticks.proofs.Results.{bytes_left_lem}
-use Rattle.gather.specs.Gather.{op_busy, next_from, turn_in, Flying, named_late, op_late, fire_at, Scratch, Lists, fired, Came, Gathered}
+use Rattle.gather.specs.Gather.{op_busy, next_from, turn_in, Flying, named_late, op_late, fire_at, Lists, fired, Came, Gathered}
+use Rattle.gather.specs.Scratch.{Scratch}
 use Rattle.gather.specs.declared.Seen.{Seen}
 use Rattle.gather.specs.declared.Course.{Course}
 use Rattle.gather.specs.declared.Course.TheVariants.{Open, Stop, Set, Call, Back}
 use Rattle.gather.proofs.OnePass.{flies, has_every, next_from_lem}
 use Rattle.gather.proofs.Passes.{gathered_views}
-use Rattle.turn.specs.Turn.{situation_at, beside, ended_by, is_stop, links, is_lost, any_late, goal_of, link_after, halt_shared, halt_fault, halt_of, Runs, Running, Room, Moved, Halted}
+use Rattle.turn.specs.Turn.{situation_at, beside, ended_by, is_stop, links, is_lost, any_late, goal_of, link_after, halt_shared, halt_fault, halt_of, Runs, Running, Moved, Halted}
 use Rattle.turn.specs.declared.Link.{Link}
-use Rattle.turn.specs.declared.Halt.{Halt}
-use Rattle.turn.specs.declared.Halt.TheVariants.{Nothing, Ends}
+use Rattle.turn.specs.declared.Point.{Point}
 use Rattle.turn.proofs.Steps.{is_in_flight, step_busy, step_stop, step_lost, step_fault, step_shared, step_go}
 
 -- ---- the pass over an instruction
@@ -64,34 +63,20 @@ pub end_follows : (l p : List ℕ) (i : ℕ) → spots (words l) ≡ instruction
 end_follows l p i e = omega (arith, words_length l, spots_length (words l), ap length e)
 
 module _ {d : Delays} {m : List ℕ} {s : Seen} {a : Scratch} where
-  pub gathered : {t top : ℕ} {link : Link} {p vs os rs ls : List ℕ} (w : List ℕ) (i j : ℕ) → Runs d p → Running t top p i link vs os rs ls → spots w ≡ instruction_at p i → j ≡ following p i
-      → Gathered (op_late t rs) (fire_at vs) d m j (map operation (spots w)) s a
-      → Gathered (op_busy (views t vs os rs ls)) (fire (map (λ (c : Cell). c.value) (views t vs os rs ls))) d m (following p i) (operations_at p i) s a
-  gathered w i j on here e f k = gathered_views here.bank here.idle (on.own i here.start) (rw (e, f) at k)
+  pub gathered : {t : ℕ} {p : List ℕ} {point : Point} {rs : List Register} (w : List ℕ) (j : ℕ) → Running t p point rs → spots w ≡ instruction_at p point.place.0 → j ≡ following p point.place.0
+      → Gathered (op_late t rs) (fire_at rs) d m j (map operation (spots w)) s a
+      → Gathered (op_busy (views t rs)) (fire (map (λ (c : Cell). c.value) (views t rs))) d m (following p point.place.0) (operations_at p point.place.0) s a
+  gathered w j here e f k = gathered_views here.bank here.idle (rw (e, f) at k)
 
-  pub room_left : {late : Op → Bool} {firing : Op → Fired} {j : ℕ} {os : List Op} → Gathered late firing d m j os s a → Room a.regs a.vals a.dels a.ats a.words a.sizes
-  room_left k =
-      let g = k.holds.results in
-      let t = k.holds.stores in
-      record { registers = g.registers; results = g.values; delays = g.delays; offsets = t.places; contents = t.values; sizes = t.sizes }
-
--- from tick `top` on no register is in flight, and register 0 never is
-pub flying_before : {t top : ℕ} {link : Link} {p vs os rs ls : List ℕ} (i : ℕ) → Running t top p i link vs os rs ls → Flying (ltb t top) t rs
-flying_before {t} {top} {rs = rs} i here =
+-- from tick `free` on no register is in flight, and register 0 never is
+pub flying_before : {t : ℕ} {p : List ℕ} {point : Point} {rs : List Register} → Running t p point rs → Flying (ltb t point.free.0) t rs
+flying_before {t} {point = point} {rs} here =
     record {
-      nothing = omega (arith, here.idle, view_busy here.bank.sizes t 0 (omega arith));
+      nothing = omega (arith, here.idle, view_busy t rs 0);
       others = λ e r.
-          ⊎_elim (λ h. let b = ltb-true t (get_or rs r 0) h in absurd (omega (arith, here.freed r b, ltb-false t top e)))
-          (λ h. ltb-false t (get_or rs r 0) h) (by_test (ltb t (get_or rs r 0)));
+          ⊎_elim (λ h. let b = ltb-true t (register_at rs r).ready h in absurd (omega (arith, here.freed r b, ltb-false t point.free.0 e)))
+          (λ h. ltb-false t (register_at rs r).ready h) (by_test (ltb t (register_at rs r).ready));
     }
-
--- an instruction starts with no results and no stores
-pub room_results : {gs xs ds ps ws ns : List ℕ} → Room gs xs ds ps ws ns → Results gs xs ds 0
-room_results z =
-    record { registers = z.registers; values = z.results; delays = z.delays; few = omega arith; register = below_none _; delay = below_none _ }
-
-pub room_stores : {gs xs ds ps ws ns : List ℕ} → Room gs xs ds ps ws ns → (m : ℕ) → Stores ps ws ns 0 m
-room_stores z m = stores_none z.offsets z.contents z.sizes
 
 -- ---- register 0 is never in flight
 
@@ -106,8 +91,8 @@ writes_idle (d ∷ ds) (v ∷ vs) bs l f h =
     writes_idle ds vs (others bs) _ (λ e m. f e (Memᴰ.tail m))
     (rw (get_or-set_other l d.reg 0 _ still (λ e. f d (Memᴰ.head refl) (sym e))) h)
 
-later_idle : {t : ℕ} {vs os rs ls : List ℕ} → Bank t vs os rs ls → (at (views t vs os rs ls) 0).busy ≡ 0 → (at (views (t + 1) vs os rs ls) 0).busy ≡ 0
-later_idle {t} z h = rw (view_busy z.sizes (t + 1) 0 (omega arith)) (omega (arith, h, view_busy z.sizes t 0 (omega arith)))
+later_idle : (t : ℕ) (rs : List Register) → (at (views t rs) 0).busy ≡ 0 → (at (views (t + 1) rs) 0).busy ≡ 0
+later_idle t rs h = rw (view_busy (t + 1) rs 0) (omega (arith, h, view_busy t rs 0))
 
 -- ---- a test of every register
 
@@ -140,14 +125,6 @@ stays Set late h = refl
 stays Call late h = absurd (false≢true h)
 stays Back late h = absurd (false≢true h)
 
--- and what is neither call nor return keeps it
-link_kept : (w : Course) (link : Link) (j : Place) → links w ≡ false → link_after w link j ≡ link
-link_kept Open link j h = refl
-link_kept Stop link j h = refl
-link_kept Set link j h = refl
-link_kept Call link j h = absurd (false≢true (sym h))
-link_kept Back link j h = refl
-
 turn_stops : (w : Course) (q : Place) (x : Next) → is_stop w ≡ true → next_by (turn_in w q) x ≡ stops
 turn_stops Open q x h = absurd (false≢true h)
 turn_stops Stop q x h = refl
@@ -178,25 +155,17 @@ pub record Ahead (s : Seen) (link : Link) : Type 0 where
   goes : is_stop s.course ≡ false
   found : is_lost s.course link ≡ false
 
--- only a call or a return may be lost
-pub unlinked : (w : Course) (link : Link) → links w ≡ false → is_lost w link ≡ false
-unlinked Open link h = refl
-unlinked Stop link h = refl
-unlinked Set link h = refl
-unlinked Call link h = refl
-unlinked Back link h = absurd (false≢true (sym h))
-
 -- ---- how a turn ends
 
 -- what `haltOf` says of what was gathered, when it halts and when it does not
-pub data Halts (s : Seen) (late : Bool) (link : Link) (shared : Bool) : Halt → Type 0 where
-  in_flight : s.busy ≡ true → Halts s late link shared (Ends (Faulted InFlight))
-  stopped : s.busy ≡ false → is_stop s.course ≡ true → Halts s late link shared (Ends Stopped)
-  held_up : s.busy ≡ false → links s.course && late ≡ true → Halts s late link shared (Ends (Faulted InFlight))
-  lost : s.busy ≡ false → links s.course && late ≡ false → is_lost s.course link ≡ true → Halts s late link shared (Ends (Faulted BadLink))
-  faulted : {f : Fault} → s.busy ≡ false → links s.course && late ≡ false → Ahead s link → s.fault ≡ First f → Halts s late link shared (Ends (Faulted f))
-  clashes : s.busy ≡ false → links s.course && late ≡ false → Ahead s link → s.fault ≡ None → shared ≡ true → Halts s late link shared (Ends (Faulted StoresClash))
-  goes_on_lem : s.busy ≡ false → links s.course && late ≡ false → Ahead s link → s.fault ≡ None → shared ≡ false → Halts s late link shared Nothing
+pub data Halts (s : Seen) (late : Bool) (link : Link) (shared : Bool) : Result ⊤ Ending → Type 0 where
+  in_flight : s.busy ≡ true → Halts s late link shared (Err (Faulted InFlight))
+  stopped : s.busy ≡ false → is_stop s.course ≡ true → Halts s late link shared (Err Stopped)
+  held_up : s.busy ≡ false → links s.course && late ≡ true → Halts s late link shared (Err (Faulted InFlight))
+  lost : s.busy ≡ false → links s.course && late ≡ false → is_lost s.course link ≡ true → Halts s late link shared (Err (Faulted BadLink))
+  faulted : {f : Fault} → s.busy ≡ false → links s.course && late ≡ false → Ahead s link → s.fault ≡ Some f → Halts s late link shared (Err (Faulted f))
+  clashes : s.busy ≡ false → links s.course && late ≡ false → Ahead s link → s.fault ≡ None → shared ≡ true → Halts s late link shared (Err (Faulted StoresClash))
+  goes_on_lem : s.busy ≡ false → links s.course && late ≡ false → Ahead s link → s.fault ≡ None → shared ≡ false → Halts s late link shared (Ok tt)
 
 pub halts : (s : Seen) (late : Bool) (link : Link) (shared : Bool) → Halts s late link shared (halt_of s late link shared)
 halts s late link shared = by s.busy refl (is_stop s.course) refl (links s.course && late) refl (is_lost s.course link) refl
@@ -205,13 +174,13 @@ halts s late link shared = by s.busy refl (is_stop s.course) refl (links s.cours
     last e n h f true c = clashes e n h f c
     last e n h f false c = goes_on_lem e n h f c
 
-    fault : s.busy ≡ false → links s.course && late ≡ false → Ahead s link → (f : FirstFault) → s.fault ≡ f → Halts s late link shared (halt_fault f shared)
+    fault : s.busy ≡ false → links s.course && late ≡ false → Ahead s link → (f : Option Fault) → s.fault ≡ f → Halts s late link shared (halt_fault f shared)
     fault e n h None f = last e n h f shared refl
-    fault e n h (First g) f = faulted e n h f
+    fault e n h (Some g) f = faulted e n h f
 
     by : (b : Bool) → s.busy ≡ b → (w : Bool) → is_stop s.course ≡ w → (l : Bool) → links s.course && late ≡ l → (x : Bool) → is_lost s.course link ≡ x
         → Halts s late link shared
-        (pick b (Ends (Faulted InFlight)) (pick w (Ends Stopped) (pick l (Ends (Faulted InFlight)) (pick x (Ends (Faulted BadLink)) (halt_fault s.fault shared)))))
+        (pick b (Err (Faulted InFlight)) (pick w (Err Stopped) (pick l (Err (Faulted InFlight)) (pick x (Err (Faulted BadLink)) (halt_fault s.fault shared)))))
     by true e w h l n x k = in_flight e
     by false e true h l n x k = stopped e h
     by false e false h true n x k = held_up e n
@@ -222,14 +191,14 @@ halts s late link shared = by s.busy refl (is_stop s.course) refl (links s.cours
 abbrev Going : Seen → Bool → Link → Bool → Type 0
 Going s late link shared = (s.busy ≡ false) × (links s.course && late ≡ false) × Ahead s link × (s.fault ≡ None) × (shared ≡ false)
 
-going : (s : Seen) (late : Bool) (link : Link) (shared : Bool) → Nothing ≡ halt_of s late link shared → Going s late link shared
+going : (s : Seen) (late : Bool) (link : Link) (shared : Bool) → Ok tt ≡ halt_of s late link shared → Going s late link shared
 going s late link shared on = by (halts s late link shared)
   where
-    Goes : Halt → Type 0
-    Goes Nothing = Going s late link shared
-    Goes (Ends x) = Unit {0}
+    Goes : Result ⊤ Ending → Type 0
+    Goes (Ok x) = Going s late link shared
+    Goes (Err x) = Unit {0}
 
-    goes : {h : Halt} → Halts s late link shared h → Goes h
+    goes : {h : Result ⊤ Ending} → Halts s late link shared h → Goes h
     goes (in_flight f) = tt
     goes (stopped f h) = tt
     goes (held_up f n) = tt
@@ -242,39 +211,45 @@ going s late link shared on = by (halts s late link shared)
     by x = rw (← on) at (goes x)
 
 -- what an operation writes that is not late has landed
-results_landed : {t : ℕ} {vs os rs ls : List ℕ} → Bank t vs os rs ls → (o : Op) → op_late t rs o ≡ false
-    → (o.t ≢ 0 → get_or ls o.t 0 ≤ t + 1) × (o.carry ≢ 0 → get_or ls o.carry 0 ≤ t + 1)
-results_landed {t} {rs = rs} z o f =
-    let read = ltb t (get_or rs o.s1 0) || ltb t (get_or rs o.s2 0) || named_late t rs o.b || named_late t rs o.stored in
-    let (g, c) = or_false (read || ltb t (get_or rs o.t 0)) (named_late t rs o.carry) f in
-    let (_, b) = or_false read (ltb t (get_or rs o.t 0)) g in (
-      λ n. omega (arith, z.low o.t, ltb-false t (get_or rs o.t 0) b),
-      λ n. omega (arith, z.low o.carry, ltb-false t (get_or rs o.carry 0) (rw (ne_eqb o.carry 0 n) at c)),
+results_landed : {t : ℕ} {rs : List Register} → Bank t rs → (o : Op) → op_late t rs o ≡ false
+    → (o.t ≢ 0 → (register_at rs o.t).land ≤ t + 1) × (o.carry ≢ 0 → (register_at rs o.carry).land ≤ t + 1)
+results_landed {t} {rs} z o f =
+    let read = ltb t (register_at rs o.s1).ready || ltb t (register_at rs o.s2).ready || named_late t rs o.b || named_late t rs o.stored in
+    let (g, c) = or_false (read || ltb t (register_at rs o.t).ready) (named_late t rs o.carry) f in
+    let (_, b) = or_false read (ltb t (register_at rs o.t).ready) g in (
+      λ n. omega (arith, z.low o.t, ltb-false t (register_at rs o.t).ready b),
+      λ n. omega (arith, z.low o.carry, ltb-false t (register_at rs o.carry).ready (rw (ne_eqb o.carry 0 n) at c)),
     )
 
 -- what it writes is clear: its registers were not in flight, and loading refuses two results for one
-pub written_clear : {d : Delays} {p : List ℕ} {t top : ℕ} {place : Place} {link : Link} {vs os rs ls m : List ℕ} {s : Seen} {a : Scratch} {j : ℕ} (late shared : Bool) (w : List ℕ)
-    → Runs d p → Running t top p place.0 link vs os rs ls → spots w ≡ instruction_at p place.0 → Gathered (op_late t rs) (fire_at vs) d m j (map operation (spots w)) s a
-    → Nothing ≡ halt_of s late link shared → Clear (t + 1) ls (dests_in a.regs a.dels s.results)
-written_clear {d} {p} {t} {link = link} {rs = rs} {ls = ls} {s = s} late shared w runs here e k on =
-    let (free, _, _, good, _) = going s late link shared on in
+pub written_clear : {d : Delays} {p : List ℕ} {t : ℕ} {point : Point} {rs : List Register} {m : List ℕ} {s : Seen} {a : Scratch} {j : ℕ} (late shared : Bool) (w : List ℕ)
+    → Runs d p → Running t p point rs → spots w ≡ instruction_at p point.place.0 → Gathered (op_late t rs) (fire_at rs) d m j (map operation (spots w)) s a
+    → Ok tt ≡ halt_of s late point.link shared → Clear (t + 1) rs (dests_in a.results)
+written_clear {d} {p} {t} {point} {rs} {s = s} late shared w runs here e k on =
+    let (free, _, _, good, _) = going s late point.link shared on in
     rw ((k.came free).lists good).dests
     record {
-      landed = dests_have (λ r. get_or ls r 0 ≤ t + 1) (map operation (spots w)) (λ o m. results_landed here.bank o (any_false_in (op_late t rs) _ (sym k.busy ∙ free) m)) d;
+      landed = dests_have (λ r. (register_at rs r).land ≤ t + 1) (map operation (spots w)) (λ o m. results_landed here.bank o (any_false_in (op_late t rs) _ (sym k.busy ∙ free) m)) d;
       apart = rw e (runs.loaded.apart _ here.start);
     }
 
-module _ {d : Delays} {p : List ℕ} {t top : ℕ} {place : Place} {link : Link} {vs os rs ls m : List ℕ} {s : Seen} {a : Scratch} (runs : Runs d p) (here : Running t top p place.0 link vs os rs ls)
-    (k : Gathered (op_busy (views t vs os rs ls)) (fire (map (λ (c : Cell). c.value) (views t vs os rs ls))) d m (following p place.0) (operations_at p place.0) s a) (landing : List ℕ) (used : ℕ) where
+module _ {d : Delays} {p : List ℕ} {t : ℕ} {point : Point} {rs : List Register} {m : List ℕ} {s : Seen} {a : Scratch} (runs : Runs d p) (here : Running t p point rs)
+    (k : Gathered (op_busy (views t rs)) (fire (map (λ (c : Cell). c.value) (views t rs))) d m (following p point.place.0) (operations_at p point.place.0) s a) (landing : List ℕ) where
+  abbrev link : Link
+  link = point.link
+
+  abbrev used : ℕ
+  used = point.used
+
   abbrev i : ℕ
-  i = place.0
+  i = point.place.0
 
   -- the place after the instruction
   abbrev after : Place
   after = record { 0 = following p i }
 
   abbrev l : Registers
-  l = views t vs os rs ls
+  l = views t rs
 
   abbrev es : List Fired
   es = fired l (operations_at p i)
@@ -286,12 +261,12 @@ module _ {d : Delays} {p : List ℕ} {t top : ℕ} {place : Place} {link : Link}
   from = situation_at i l whole landing used
 
   abbrev held : List Store
-  held = stores_in a.ats a.words a.sizes s.stores
+  held = a.stores
 
   came : s.busy ≡ false → Came d m (following p i) (operations_at p i) es s a
   came free = k.came free
 
-  lists : s.busy ≡ false → s.fault ≡ None → Lists (dests d (operations_at p i)) (result_values m es) (stores_of (length m) es) s a
+  lists : s.busy ≡ false → s.fault ≡ None → Lists (dests d (operations_at p i)) (result_values m es) (stores_of (length m) es) a
   lists free good = (came free).lists good
 
   -- where it goes is where its course does
@@ -314,21 +289,21 @@ module _ {d : Delays} {p : List ℕ} {t top : ℕ} {place : Place} {link : Link}
   -- a register in flight, of those that it reads and writes
   flying : s.busy ≡ false → is_in_flight d p i l whole (drop used landing) ≡ links s.course && any_late t rs
   flying free =
-      rw (sym k.busy ∙ free, reading free, below_same (flies l) (λ r. ltb t (get_or rs r 0)) 288 (view_late here.bank.sizes t))
+      rw (sym k.busy ∙ free, reading free, below_same (flies l) (λ r. ltb t (register_at rs r).ready) 288 (λ r _. view_late t rs r))
 
   leads : s.busy ≡ false → Ahead s link
       → out_by (is_start p) (following p i) (next_from (following p i) es (goes_to (following p i))) whole es ≡ goes_on (links_of s.course (following p i)) (goal_of s.course s.place after link).0 m es
   leads free h = rw (aims free) (turn_goes p link here.linked m es after s.course s.place h.goes h.found)
 
   -- it ends the run, and nothing was written
-  pub turn_off : (e : Ending) → Ends e ≡ halt_of s (any_late t rs) link (any_share held) → Halted d p landing t top place.0 used link from e vs os rs ls m
-  turn_off e q = record { running = here; is = by (any_share held) refl (Ends e) q (halts s (any_late t rs) link (any_share held)) }
+  pub turn_off : (e : Ending) → Err e ≡ halt_of s (any_late t rs) link (any_share held) → Halted d p landing t point from e rs m
+  turn_off e q = record { running = here; is = by (any_share held) refl (Err e) q (halts s (any_late t rs) link (any_share held)) }
     where
-      Ended : Halt → Type 0
-      Ended Nothing = Unit {0}
-      Ended (Ends x) = step change (instruction_of d p) from ≡ ends x (ended_by x from)
+      Ended : Result ⊤ Ending → Type 0
+      Ended (Ok x) = Unit {0}
+      Ended (Err x) = step change (instruction_of d p) from ≡ ends x (ended_by x from)
 
-      ended : {b : Bool} {h : Halt} → any_share held ≡ b → Halts s (any_late t rs) link b h → Ended h
+      ended : {b : Bool} {h : Result ⊤ Ending} → any_share held ≡ b → Halts s (any_late t rs) link b h → Ended h
       ended c (in_flight f) = step_busy d p i l whole (drop used landing) here.idle (rw (sym k.busy ∙ f))
       ended c (stopped f h) = step_stop d p i l whole (drop used landing) here.idle (flying f ∙ stays s.course (any_late t rs) h) (aims f ∙ turn_stops s.course s.place _ h)
       ended c (held_up f n) = step_busy d p i l whole (drop used landing) here.idle (flying f ∙ n)
@@ -339,7 +314,7 @@ module _ {d : Delays} {p : List ℕ} {t top : ℕ} {place : Place} {link : Link}
           step_shared d p i l whole (drop used landing) here.idle (flying f ∙ n) _ _ (leads f h) (sym (came f).fault ∙ y) (rw (← (lists f y).stores) (c ∙ z))
       ended c (goes_on_lem f n h y z) = tt
 
-      by : (b : Bool) → any_share held ≡ b → (h : Halt) → h ≡ halt_of s (any_late t rs) link b → Halts s (any_late t rs) link b (halt_of s (any_late t rs) link b) → Ended h
+      by : (b : Bool) → any_share held ≡ b → (h : Result ⊤ Ending) → h ≡ halt_of s (any_late t rs) link b → Halts s (any_late t rs) link b (halt_of s (any_late t rs) link b) → Ended h
       by b c h r x = rw r (ended c x)
 
   acts_go : (cs : List Change) (j : ℕ) → out_by (is_start p) (following p i) (next_from (following p i) es (goes_to (following p i))) whole es ≡ goes_on cs j m es
@@ -362,43 +337,37 @@ module _ {d : Delays} {p : List ℕ} {t top : ℕ} {place : Place} {link : Link}
           (sym (runs.calls i o here.start m w), omega (arith, runs.short, following_within p i (start_inside p i here.start)))
       by Back e = (here.linked, here.low)
 
-  -- everything is written
-  module _ (on : Nothing ≡ halt_of s (any_late t rs) link (any_share held)) {us qs bs ns : List ℕ} {until : ℕ} (bank : Bank (t + 1) us qs bs ns) (freed : Freed (t + 1) until bs)
-      (put : views (t + 1) us qs bs ns
-      ≡ puts (writes (dests_in a.regs a.dels s.results) (values_in a.vals s.results) (drop used landing)) (views (t + 1) vs os rs ls))
+  -- everything is written, and the run goes on where the course says
+  module _ (on : Ok tt ≡ halt_of s (any_late t rs) link (any_share held)) {us : List Register} {until : Count} (bank : Bank (t + 1) us) (freed : Freed (t + 1) until.0 us)
+      (put : views (t + 1) us ≡ puts (writes (dests_in a.results) (values_in a.results) (drop used landing)) (views (t + 1) rs))
       (m' : List ℕ) (stored : m' ≡ stores store held m) where
-    abbrev to : ℕ
-    to = (goal_of s.course s.place after link).0
+    abbrev to : Point
+    to = record { place = goal_of s.course s.place after link; used = used + length a.results; free = until; link = link_after s.course link after }
 
     turn_on : s.busy ≡ false → links s.course && any_late t rs ≡ false → Ahead s link → s.fault ≡ None → any_share held ≡ false
-        → Moved d p landing t used from to s.results until (link_after s.course link after) us qs bs ns m'
+        → Moved d p landing t point from to us m'
     turn_on free n h good apart =
         let ks = lists free good in
         let went = leads free h in
         let faultless : fault_of (length m) es ≡ None = sym (came free).fault ∙ good in
         let unshared : any_share (stores_of (length m) es) ≡ false = rw (← ks.stores) apart in
-        let left : bytes_left (dests d (operations_at p i)) (result_values m es) (drop used landing) ≡ drop (used + s.results) landing = rw (← ks.dests, ← ks.values) (bytes_left_lem k.holds.results landing used) in
+        let left : bytes_left (dests d (operations_at p i)) (result_values m es) (drop used landing) ≡ drop (used + length a.results) landing = rw (← ks.dests, ← ks.values) (bytes_left_lem a.results landing used) in
         let (linked, low) = linked_after free in
         record {
-          few = k.holds.results.few;
+          few = omega (arith, k.holds.results.few);
           running =
               record {
                 bank = bank;
                 freed = freed;
                 linked = linked;
                 low = low;
-                start = arrives runs.loaded here.start (runs.loaded.goes i _ whole _ _ to here.start (acts_go _ to went faultless unshared));
-                idle = rw (put, ks.dests) (writes_idle _ _ _ _ (dests_some d (operations_at p i)) (later_idle here.bank here.idle));
+                start = arrives runs.loaded here.start (runs.loaded.goes i _ whole _ _ to.place.0 here.start (acts_go _ to.place.0 went faultless unshared));
+                idle = rw (put, ks.dests) (writes_idle _ _ _ _ (dests_some d (operations_at p i)) (later_idle t rs here.idle));
               };
           is =
-              step_go d p i l whole (drop used landing) here.idle (flying free ∙ n) _ to went faultless unshared
-              ∙ rw (put, stored, ks.stores, ks.dests, ks.values, left, views_aged t vs os rs ls, link_left s.course link after (stores store (stores_of (length m) es) m));
+              step_go d p i l whole (drop used landing) here.idle (flying free ∙ n) _ to.place.0 went faultless unshared
+              ∙ rw (put, stored, ks.stores, ks.dests, ks.values, left, views_aged t rs, link_left s.course link after (stores store (stores_of (length m) es) m));
         }
 
-    pub turn_went : Moved d p landing t used from to s.results until (link_after s.course link after) us qs bs ns m'
+    pub turn_went : Moved d p landing t point from to us m'
     turn_went = let (free, n, h, good, apart) = going s (any_late t rs) link (any_share held) on in turn_on free n h good apart
-
-    -- where it is neither call nor return
-    pub turn_kept : links s.course ≡ false → Moved d p landing t used from to s.results until link us qs bs ns m'
-    turn_kept h =
-        subst (λ (x : Link). Moved d p landing t used from to s.results until x us qs bs ns m') (link_kept s.course link after h) turn_went

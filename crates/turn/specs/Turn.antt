@@ -1,10 +1,11 @@
 -- Private to the run's loop, nobody has to believe it: the machine's situation as the loop holds it at a tick, and what one turn makes of it.
-use Rattle.std.specs.Prelude.{◌≡◌, Bool, true, false, not, ◌&&◌, ℕ, ◌+◌, ◌^◌, ◌≤◌, ◌<◌, ltb, length, get_or, drop}
+use Rattle.std.specs.Prelude.{◌≡◌, Bool, true, false, not, ◌&&◌, ℕ, ◌+◌, ◌^◌, ◌≤◌, ◌<◌, ltb, length, drop, Option, None, Some, Result, Ok, Err, ⊤}
 use mathlib.Core.List.{List, map, Memᴰ}
 use Rattle.word.specs.Choice.{pick}
 use Rattle.word.specs.Lists.{any_below, count}
 use Rattle.vliw.specs.Run.{ends, next}
-use Rattle.vliw.specs.Cell.{Registers, at, rested}
+use Rattle.vliw.specs.Cell.{Registers, rested}
+use Rattle.vliw.specs.Cell.{at as cell_at}
 use Rattle.vliw.specs.Machine.{Situation, in_order, step}
 use Rattle.vliw.specs.Demand3.{WellFormed}
 use Rattle.vliw.specs.declared.Ending.{Ending}
@@ -16,20 +17,17 @@ use Rattle.isa.specs.declared.Delays.{Delays}
 use Rattle.isa.specs.declared.Op.{Op}
 use Rattle.isa.specs.declared.Place.{Place}
 use Rattle.isa.specs.declared.Way.TheVariants as way
-use Rattle.memory.specs.declared.FirstFault.{FirstFault}
-use Rattle.memory.specs.declared.FirstFault.TheVariants.{None, First}
+use Rattle.vliw.specs.declared.Fault.{Fault}
 use Rattle.machine.specs.Link.{Memory, Change, memory_of, change}
 use Rattle.machine.specs.Instruction.{instruction_of}
-use Rattle.ticks.specs.Ticks.{views, Bank, Freed}
+use Rattle.ticks.specs.Ticks.{register_at, views, Bank, Freed}
+use Rattle.ticks.specs.declared.Register.{Register}
 use Rattle.gather.specs.Gather.{Own, Timely}
 use Rattle.gather.specs.declared.Seen.{Seen}
 use Rattle.gather.specs.declared.Course.{Course}
 use Rattle.gather.specs.declared.Course.TheVariants.{Open, Stop, Set, Call, Back}
-use Rattle.turn.specs.declared.Halt.{Halt}
-use Rattle.turn.specs.declared.Halt.TheVariants.{Nothing, Ends}
 use Rattle.turn.specs.declared.Link.{Link}
-use Rattle.turn.specs.declared.Stepped.{Stepped}
-use Rattle.turn.specs.declared.Stepped.TheVariants.{On, Off}
+use Rattle.turn.specs.declared.Point.{Point}
 
 -- `landing` is all the call's landing bytes, of which `used` are taken
 abbrev pub situation_at : ℕ → Registers → Memory → List ℕ → ℕ → Situation Memory Change
@@ -47,8 +45,8 @@ ended_by Stopped s = at_rest s
 ended_by (Faulted f) s = s
 
 -- some register is busy at tick t
-abbrev pub any_late : ℕ → List ℕ → Bool
-any_late t rs = any_below (λ r. ltb t (get_or rs r 0)) 288
+abbrev pub any_late : ℕ → List Register → Bool
+any_late t rs = any_below (λ r. ltb t (register_at rs r).ready) 288
 
 -- what stands against an instruction, from what was gathered, and whether two of its stores share a byte
 abbrev pub is_stop : Course → Bool
@@ -93,20 +91,20 @@ link_after Set link j = link
 link_after Call link j = record { place = j; starts = true }
 link_after Back link j = link
 
-abbrev pub halt_shared : Bool → Halt
-halt_shared shared = pick shared (Ends (Faulted StoresClash)) Nothing
+abbrev pub halt_shared : Bool → Result ⊤ Ending
+halt_shared shared = pick shared (Err (Faulted StoresClash)) (Ok tt)
 
-abbrev pub halt_fault : FirstFault → Bool → Halt
-halt_fault (First f) shared = Ends (Faulted f)
+abbrev pub halt_fault : Option Fault → Bool → Result ⊤ Ending
+halt_fault (Some f) shared = Err (Faulted f)
 halt_fault None shared = halt_shared shared
 
 -- `late`: some register is in flight
-abbrev pub halt_of : Seen → Bool → Link → Bool → Halt
+abbrev pub halt_of : Seen → Bool → Link → Bool → Result ⊤ Ending
 halt_of s late link shared =
-    pick s.busy (Ends (Faulted InFlight))
-    (pick (is_stop s.course) (Ends Stopped)
-    (pick (links s.course && late) (Ends (Faulted InFlight))
-    (pick (is_lost s.course link) (Ends (Faulted BadLink)) (halt_fault s.fault shared))))
+    pick s.busy (Err (Faulted InFlight))
+    (pick (is_stop s.course) (Err Stopped)
+    (pick (links s.course && late) (Err (Faulted InFlight))
+    (pick (is_lost s.course link) (Err (Faulted BadLink)) (halt_fault s.fault shared))))
 
 -- what loading gives the loop
 pub record Runs (d : Delays) (program : List ℕ) : Type 0 where
@@ -118,40 +116,30 @@ pub record Runs (d : Delays) (program : List ℕ) : Type 0 where
   pub calls : (i : ℕ) (o : Op) {t : Place} → is_start program i ≡ true → Memᴰ o (operations_at program i) → o.way ≡ way.Call t
       → is_start program (following program i) ≡ true
 
--- the registers at tick t, at a place, with a link; none of those that are busy is from tick `free` on
-pub record Running (t free : ℕ) (program : List ℕ) (place : ℕ) (link : Link) (vs os rs ls : List ℕ) : Type 0 where
-  pub bank : Bank t vs os rs ls
-  pub freed : Freed t free rs
-  pub linked : link.starts ≡ is_start program link.place.0
-  pub low : link.place.0 < 2 ^ 32
-  pub start : is_start program place ≡ true
-  pub idle : (at (views t vs os rs ls) 0).busy ≡ 0
-
--- the arrays of an instruction's results and stores
-pub record Room (gs xs ds ps ws ns : List ℕ) : Type 0 where
-  pub registers : length gs ≡ 64
-  pub results : length xs ≡ 64
-  pub delays : length ds ≡ 64
-  pub offsets : length ps ≡ 32
-  pub contents : length ws ≡ 32
-  pub sizes : length ns ≡ 32
+-- the registers at tick t, where a run stands; none of those that are busy is from tick `free` on
+pub record Running (t : ℕ) (program : List ℕ) (at : Point) (rs : List Register) : Type 0 where
+  pub bank : Bank t rs
+  pub freed : Freed t at.free.0 rs
+  pub linked : at.link.starts ≡ is_start program at.link.place.0
+  pub low : at.link.place.0 < 2 ^ 32
+  pub start : is_start program at.place.0 ≡ true
+  pub idle : (cell_at (views t rs) 0).busy ≡ 0
 
 -- the memory of the machine, from the loop's bytes and link
 abbrev pub beside : List ℕ → Link → Memory
 beside bytes link = memory_of bytes link.place.0
 
--- one turn at tick t, from s: it went on to a place and took so many landing bytes
-pub record Moved (d : Delays) (program landing : List ℕ) (t used : ℕ) (s : Situation Memory Change) (place taken free : ℕ) (link : Link) (vs os rs ls m : List ℕ) : Type 0 where
-  pub few : taken ≤ 64
-  pub running : Running (t + 1) free program place link vs os rs ls
-  pub is : step change (instruction_of d program) s ≡ next (situation_at place (views (t + 1) vs os rs ls) (beside m link) landing (used + taken))
+-- one turn at tick t, from s: it went on, with at most 64 landing bytes taken
+pub record Moved (d : Delays) (program landing : List ℕ) (t : ℕ) (at : Point) (s : Situation Memory Change) (to : Point) (rs : List Register) (m : List ℕ) : Type 0 where
+  pub few : to.used ≤ at.used + 64
+  pub running : Running (t + 1) program to rs
+  pub is : step change (instruction_of d program) s ≡ next (situation_at to.place.0 (views (t + 1) rs) (beside m to.link) landing to.used)
 
--- or it ended the run, at its own place
-pub record Halted (d : Delays) (program landing : List ℕ) (t free place used : ℕ) (link : Link) (s : Situation Memory Change) (e : Ending) (vs os rs ls m : List ℕ) : Type 0 where
-  pub running : Running t free program place link vs os rs ls
-  pub is : step change (instruction_of d program) s ≡ ends e (ended_by e (situation_at place (views t vs os rs ls) (beside m link) landing used))
+-- or it ended the run, where it stood
+pub record Halted (d : Delays) (program landing : List ℕ) (t : ℕ) (at : Point) (s : Situation Memory Change) (e : Ending) (rs : List Register) (m : List ℕ) : Type 0 where
+  pub running : Running t program at rs
+  pub is : step change (instruction_of d program) s ≡ ends e (ended_by e (situation_at at.place.0 (views t rs) (beside m at.link) landing at.used))
 
-abbrev pub Turned : Delays → List ℕ → List ℕ → ℕ → ℕ → ℕ → ℕ → Link → Situation Memory Change → Stepped → List ℕ → List ℕ → List ℕ → List ℕ → List ℕ → Type 0
-Turned d program landing t free place used link s (On to taken later after) vs os rs ls m =
-    Moved d program landing t used s to.0 taken later.0 after vs os rs ls m
-Turned d program landing t free place used link s (Off e) vs os rs ls m = Halted d program landing t free place used link s e vs os rs ls m
+abbrev pub Turned : Delays → List ℕ → List ℕ → ℕ → Point → Situation Memory Change → Result Point Ending → List Register → List ℕ → Type 0
+Turned d program landing t at s (Ok to) rs m = Moved d program landing t at s to rs m
+Turned d program landing t at s (Err e) rs m = Halted d program landing t at s e rs m

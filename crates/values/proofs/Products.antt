@@ -1,13 +1,10 @@
 -- Laws of products: by the signs of the two, and how large.
 use mathlib.Core.Path.{◌≡◌, sym, ap, ap₂, ◌∙◌}
 use Prim.Native.Nat.{ℕ, ◌+◌, ◌*◌, ◌-◌, ◌≤◌, ◌<◌}
-use native.Mathlib.Nat.{mul_comm, mul-add, add-mul, add_comm, le_trans, mul-le-mul_left, mul-le-mul_right}
+use native.Mathlib.Nat.{mul_comm, mul-add, add-mul, add_comm}
 use native.Mathlib.Omega.{arith}
 use Rattle.values.specs.Values.{half, within}
 use Rattle.values.proofs.Range.{within_same}
-
-pub below : (x y : ℕ) → x ≤ half → y ≤ half → x * y ≤ half * half
-below x y h k = le_trans (mul-le-mul_left x k) (mul-le-mul_right half h)
 
 up_up : (x y : ℕ) → (half + x) * (half + y) + half * half + 0 ≡ x * y + ((half + x) * half + half * (half + y))
 up_up x y = omega arith

@@ -6,15 +6,16 @@ use native.Mathlib.Omega.{arith}
 use borrow.Author.Tests.{le-leb, lt-leb, lt-ltb, le-ltb, leb-true, leb-false, ltb-true, ltb-false}
 use lib.Dec.{leb, ltb}
 use Rattle.values.specs.Values.{half, within}
-use Rattle.values.specs.declared.Value.TheVariants.{Is, Outside}
+use Rattle.std.specs.Prelude.{Ok, Err}
+use Rattle.values.specs.declared.Fault.TheVariants.{Outside}
 
-pub within_low : (p m : ℕ) → p + half < m → within p m ≡ Outside
+pub within_low : (p m : ℕ) → p + half < m → within p m ≡ Err Outside
 within_low p m h = rw (lt-leb m (p + half) h)
 
-pub within_high : (p m : ℕ) → m + half ≤ p → within p m ≡ Outside
+pub within_high : (p m : ℕ) → m + half ≤ p → within p m ≡ Err Outside
 within_high p m h = rw (le-ltb p (m + half) h, and-false (leb m (p + half)))
 
-pub within_is : (p m : ℕ) → m ≤ p + half → p < m + half → within p m ≡ Is (p + half - m)
+pub within_is : (p m : ℕ) → m ≤ p + half → p < m + half → within p m ≡ Ok (p + half - m)
 within_is p m h k = rw (le-leb m (p + half) h, lt-ltb p (m + half) k)
 
 -- one whole number, as two differences
@@ -28,4 +29,4 @@ within_same p m q n e = go (leb m (p + half)) (ltb p (m + half)) refl refl
         let h = leb-true m (p + half) f in
         let k = ltb-true p (m + half) g in
         let s : p + half - m ≡ q + half - n = omega arith in
-        within_is p m h k ∙ (ap Is s ∙ sym (within_is q n (omega arith) (omega arith)))
+        within_is p m h k ∙ (ap Ok s ∙ sym (within_is q n (omega arith) (omega arith)))

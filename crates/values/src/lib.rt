@@ -5,16 +5,18 @@ ghost use Rattle.std.specs.Prelude.{◌≡◌, true, ◌+◌, ◌*◌, ◌<◌, 
 ghost use Rattle.lines.specs.Lines.{every};
 ghost use Rattle.tokens.specs.Tokens.{is_decimal};
 ghost use Rattle.values.specs.Values.{add, sub, mul, whole, held, within, both, decimal};
+ghost use Rattle.values.specs.Combining.{Combined};
 
-#[derive(Clone, Copy)]
-pub enum Value {
-    // 2^31 more than the value
-    Is(u32),
-    // 19: of a label that no line gives
+#[derive(Clone, Copy, PartialEq, Eq)]
+pub enum Fault {
+    // 19: a label that no line gives
     Missing,
     // 20: outside the range
     Outside,
 }
+
+// 2^31 more than the value.
+pub type Value = Result<u32, Fault>;
 
 // The value p - m.
 fn fit(p: u64, m: u64) -> Value
@@ -22,12 +24,12 @@ fn fit(p: u64, m: u64) -> Value
     ensures { result ≡ within p m }
 {
     if p + 2147483648 < m {
-        return Value::Outside;
+        return Err(Fault::Outside);
     }
     if m + 2147483648 <= p {
-        return Value::Outside;
+        return Err(Fault::Outside);
     }
-    Value::Is((p + 2147483648 - m) as u32)
+    Ok((p + 2147483648 - m) as u32)
 }
 
 fn sum(a: u32, b: u32) -> Value
@@ -67,58 +69,34 @@ fn product(a: u32, b: u32) -> Value
     fit(multiplied(2147483648 - x, 2147483648 - y), 0)
 }
 
+// A label that no line gives goes before a value outside.
+fn combined<F: FnOnce(u32, u32) -> Value + Drop>(f: F, a: Value, b: Value) -> Value
+    requires { F.IsAlwaysCallable f }
+    ensures { Combined (F.post f) a b result }
+{
+    match (a, b) {
+        (Ok(x), Ok(y)) => f(x, y),
+        (Err(Fault::Missing), _) | (_, Err(Fault::Missing)) => Err(Fault::Missing),
+        _ => Err(Fault::Outside),
+    }
+}
+
 pub fn plus(a: Value, b: Value) -> Value
     ensures { result ≡ both add a b }
 {
-    match a {
-        Value::Is(x) => match b {
-            Value::Is(y) => sum(x, y),
-            Value::Missing => Value::Missing,
-            Value::Outside => Value::Outside,
-        },
-        Value::Missing => Value::Missing,
-        Value::Outside => match b {
-            Value::Is(_) => Value::Outside,
-            Value::Missing => Value::Missing,
-            Value::Outside => Value::Outside,
-        },
-    }
+    combined(sum, a, b)
 }
 
 pub fn minus(a: Value, b: Value) -> Value
     ensures { result ≡ both sub a b }
 {
-    match a {
-        Value::Is(x) => match b {
-            Value::Is(y) => difference(x, y),
-            Value::Missing => Value::Missing,
-            Value::Outside => Value::Outside,
-        },
-        Value::Missing => Value::Missing,
-        Value::Outside => match b {
-            Value::Is(_) => Value::Outside,
-            Value::Missing => Value::Missing,
-            Value::Outside => Value::Outside,
-        },
-    }
+    combined(difference, a, b)
 }
 
 pub fn times(a: Value, b: Value) -> Value
     ensures { result ≡ both mul a b }
 {
-    match a {
-        Value::Is(x) => match b {
-            Value::Is(y) => product(x, y),
-            Value::Missing => Value::Missing,
-            Value::Outside => Value::Outside,
-        },
-        Value::Missing => Value::Missing,
-        Value::Outside => match b {
-            Value::Is(_) => Value::Outside,
-            Value::Missing => Value::Missing,
-            Value::Outside => Value::Outside,
-        },
-    }
+    combined(product, a, b)
 }
 
 // The value of a number's digits.
@@ -126,14 +104,12 @@ pub fn number(w: &[u8]) -> Value
     requires { every is_decimal w.now ≡ true }
     ensures { result ≡ decimal w.now }
 {
-    let mut v: u64 = 0;
-    let mut i = 0;
-    while i < w.len() {
-        v = v * 10 + (w[i] as u64 - 48);
+    let mut v = 0;
+    for d in w {
+        v = v * 10 + (*d - b'0') as u64;
         if 2147483648 <= v {
-            return Value::Outside;
+            return Err(Fault::Outside);
         }
-        i += 1;
     }
-    Value::Is((2147483648 + v) as u32)
+    Ok((2147483648 + v) as u32)
 }

@@ -3,14 +3,13 @@ use mathlib.Core.Path.{◌≡◌, refl, sym, ap, ◌∙◌}
 use mathlib.Core.Logic.{◌⊎◌, inl, inr}
 use mathlib.Core.List.{List, [], ◌∷◌, ◌++◌, append_assoc, append-nil}
 use Prim.Native.Nat.{ℕ, zero, suc, ◌+◌, ◌-◌, ◌*◌, ◌/◌, ◌%◌, ◌^◌, ◌≤◌, ◌<◌}
-use native.Mathlib.Nat.{suc-mul, pow-succ', one-le-pow, mul_assoc, mod-one, mod-eq_of_lt, mul-add-div_right, mul-add-mod_self_right, div-one, not-suc-le-zero, zero-lt-suc, add_assoc, lt_of_lt_of_le, pow-le-pow_right, add-zero, zero-add, div-add-mod'}
-use native.Mathlib.Numerals.{add-one, add-two, add-three, add-four}
+use native.Mathlib.Nat.{suc-mul, pow-succ', one-le-pow, mul_assoc, mod-one, mod-eq_of_lt, mul-add-div_right, mul-add-mod_self_right, not-suc-le-zero, zero-lt-suc, add_assoc, lt_of_lt_of_le, pow-le-pow_right, add-zero, zero-add, div-add-mod'}
+use native.Mathlib.Numerals.{add-one, add-four}
 use native.Mathlib.Omega.{arith}
 use lib.ListN.{length, get_or, take, drop, set, length-take, length-drop}
 use lib.Seq.{drop-cons, get_or-drop, sets, length-sets, sets-eq, length-take-le, drop-length, take_at, drop_at, drop-set-lt, drop-set-add, take-set-le}
-use lib.Bits.{bit_or, or_shifted}
 use lib.Arith.{digits_lt, digits_div, mod-mul}
-use Rattle.word.specs.Bytes.{AreBytes, number, bytes, number_at, word_at, put_number, put_word, words}
+use Rattle.word.specs.Bytes.{AreBytes, number, bytes, number_at, word_at, put_number, words}
 
 pow_pos : (n : ℕ) → 0 < 256 ^ n
 pow_pos n = one-le-pow n 256 (zero-lt-suc 255)
@@ -73,10 +72,6 @@ word_at_sum at l h =
     rw (← add_assoc at 1 2, ← add_assoc at 1 1, ← add_assoc b 1 1)
     (omega (arith, number_at_suc 3 at l h, number_at_suc 2 b l (omega arith), number_at_suc 1 (b + 1) l (omega arith), number_at_suc 0 (b + 1 + 1) l (omega arith)))
 
--- what is or-ed below a multiple of a power adds to it
-pub or_low : (m y k x : ℕ) → m ≡ x * 2 ^ k → y < 2 ^ k → bit_or m y ≡ m + y
-or_low m y k x e h = rw e (or_shifted x k y h)
-
 -- ---- puts at an offset
 
 pub put_number_length : (n at v : ℕ) (l : List ℕ) → length (put_number n at v l) ≡ length l
@@ -100,11 +95,6 @@ part_sets m to (a ∷ vs) l i (inr h) = part_sets m to vs (set l i a) (suc i) (i
 
 pub number_at_other : (n at v : ℕ) (l : List ℕ) (m to : ℕ) → (to + m ≤ at) ⊎ (at + n ≤ to) → number_at m to (put_number n at v l) ≡ number_at m to l
 number_at_other n at v l m to h = ap number (part_sets m to (bytes n v) l at (rw (bytes_length n v) h))
-
--- a word is put by a store for each byte
-pub put_word_sets : (at w : ℕ) (l : List ℕ)
-    → put_word at w l ≡ set (set (set (set l at (w / 2 ^ 24 % 256)) (at + 1) (w / 2 ^ 16 % 256)) (at + 2) (w / 2 ^ 8 % 256)) (at + 3) (w % 256)
-put_word_sets at w l = rw (add-one, add-two, add-three, div-one)
 
 -- ---- the words of a list of bytes
 

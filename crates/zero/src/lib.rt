@@ -8,7 +8,6 @@ ghost use Rattle.zero.specs.Rebuilt.{Rebuilds};
 
 use isa::Format;
 use isa::syllable::{bits, format, holds, opcode};
-use isa::truth::{both, either};
 
 // Whether one of bits hi..lo is set.
 fn any(s: u32, hi: u32, lo: u32) -> bool
@@ -22,7 +21,7 @@ fn any(s: u32, hi: u32, lo: u32) -> bool
 fn beside_register(s: u32) -> bool
     ensures { result ≡ beside_register s }
 {
-    both(holds(s, 11, 11, 0), any(s, 10, 6))
+    holds(s, 11, 11, 0) && any(s, 10, 6)
 }
 
 // Of each form, the bits that are not named.
@@ -31,23 +30,17 @@ fn bad_bits_as(f: Format, s: u32) -> bool
 {
     match f {
         // Of opcode 0 a call alone has a target.
-        Format::Still => either(
-            3 < bits(s, 23, 18),
-            both(!holds(s, 23, 18, 2), any(s, 17, 0)),
-        ),
+        Format::Still => 3 < bits(s, 23, 18) || (!holds(s, 23, 18, 2) && any(s, 17, 0)),
         Format::Two => beside_register(s),
         Format::One => any(s, 11, 0),
-        Format::Test => either(any(s, 23, 21), beside_register(s)),
+        Format::Test => any(s, 23, 21) || beside_register(s),
         Format::Select => any(s, 8, 6),
         Format::Copy => any(s, 11, 2),
-        Format::Carry => false,
-        Format::Load => false,
-        Format::Store => false,
-        Format::Jump => false,
-        Format::Fork => false,
+        Format::Carry | Format::Load | Format::Store | Format::Jump | Format::Fork => false,
     }
 }
 
+#[tactic(auto, unfolding(crate::specs::Zero::bad_bits))]
 pub fn bad_bits(s: u32) -> bool
     ensures { result ≡ bad_bits s }
 {

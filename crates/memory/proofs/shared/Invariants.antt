@@ -1,13 +1,10 @@
-use mathlib.Core.Path.{◌≡◌}
-use mathlib.Core.List.{List}
-use Prim.Native.Nat.{ℕ, ◌≤◌}
+-- The invariant: the stores before the rest share a byte with none.
+use Rattle.std.proofs.Common.{◌≡◌, length}
 use Rattle.memory.specs.Memory.{any_share}
-use Rattle.memory.specs.Held.{stores_in}
 use Rattle.memory.proofs.shared.Given as goal
 
-abbrev pub invariant-loop-i : goal.invariant-loop-i
-invariant-loop-i l =
-    (l.i ≤ l.count) × ((vs : List ℕ) → any_share (stores_in l.offsets vs l.sizes l.count) ≡ any_share (stores_in l.offsets vs l.sizes l.i))
+abbrev pub invariant-loop-first : goal.invariant-loop-first
+invariant-loop-first l = any_share l.rest ≡ any_share l.fn.stores
 
-abbrev pub decreases-loop-i : goal.decreases-loop-i
-decreases-loop-i l = l.i
+abbrev pub decreases-loop-first : goal.decreases-loop-first
+decreases-loop-first l = length l.rest

@@ -1,14 +1,10 @@
-use mathlib.Core.Path.{◌≡◌}
-use Prim.Native.Nat.{◌-◌, ◌≤◌}
-use lib.ListN.{length}
-use Rattle.vliw.specs.Machine.{stores}
+-- The invariant: the stores from the index on are left.
+use Rattle.std.proofs.Common.{◌≡◌, length, drop}
+use Rattle.vliw.specs.Machine.{stores as stored}
 use Rattle.memory.specs.Memory.{store}
-use Rattle.memory.specs.Held.{stores_in}
 use Rattle.memory.proofs.store_all.Given as goal
 
-abbrev pub invariant-loop-k : goal.invariant-loop-k
-invariant-loop-k l =
-    (l.k ≤ l.count) × (length l.memory ≡ length l.initial.memory) × (l.memory ≡ stores store (stores_in l.offsets l.contents l.sizes l.k) l.initial.memory)
-
-abbrev pub decreases-loop-k : goal.decreases-loop-k
-decreases-loop-k l = l.count - l.k
+abbrev pub invariant-loop-s : goal.invariant-loop-s
+invariant-loop-s l =
+    (length l.memory ≡ length l.initial.memory)
+    × (stored store (drop l.s-index l.stores) l.memory ≡ stored store l.stores l.initial.memory)

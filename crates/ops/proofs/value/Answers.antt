@@ -50,16 +50,16 @@ pub returns-in-10 : goal.returns-in-10
 returns-in-10 c = at_row 10 _ _ _ c.in-10.is c.shru.ensures
 
 pub returns-in-11 : goal.returns-in-11
-returns-in-11 c = at_row 11 _ _ _ c.in-11.is c.sh1add.ensures
+returns-in-11 c = at_row 11 _ _ _ c.in-11.is c.shift_add.ensures
 
 pub returns-in-12 : goal.returns-in-12
-returns-in-12 c = at_row 12 _ _ _ c.in-12.is c.sh2add.ensures
+returns-in-12 c = at_row 12 _ _ _ c.in-12.is c.shift_add-in-12.ensures
 
 pub returns-in-13 : goal.returns-in-13
-returns-in-13 c = at_row 13 _ _ _ c.in-13.is c.sh3add.ensures
+returns-in-13 c = at_row 13 _ _ _ c.in-13.is c.shift_add-in-13.ensures
 
 pub returns-in-14 : goal.returns-in-14
-returns-in-14 c = at_row 14 _ _ _ c.in-14.is c.sh4add.ensures
+returns-in-14 c = at_row 14 _ _ _ c.in-14.is c.shift_add-in-14.ensures
 
 pub returns-in-15 : goal.returns-in-15
 returns-in-15 c = at_row 15 _ _ _ c.in-15.is c.max.ensures
@@ -74,16 +74,16 @@ pub returns-in-18 : goal.returns-in-18
 returns-in-18 c = at_row 18 _ _ _ c.in-18.is c.minu.ensures
 
 pub returns-in-19 : goal.returns-in-19
-returns-in-19 c = at_row 19 _ _ _ c.in-19.is c.sxtb.ensures
+returns-in-19 c = at_row 19 _ _ _ c.in-19.is c.widen.ensures
 
 pub returns-in-20 : goal.returns-in-20
-returns-in-20 c = at_row 20 _ _ _ c.in-20.is c.sxth.ensures
+returns-in-20 c = at_row 20 _ _ _ c.in-20.is c.widen-in-20.ensures
 
 pub returns-in-21 : goal.returns-in-21
-returns-in-21 c = at_row 21 _ _ _ c.in-21.is c.zxtb.ensures
+returns-in-21 c = at_row 21 _ _ _ c.in-21.is c.low.ensures
 
 pub returns-in-22 : goal.returns-in-22
-returns-in-22 c = at_row 22 _ _ _ c.in-22.is c.zxth.ensures
+returns-in-22 c = at_row 22 _ _ _ c.in-22.is c.low-in-22.ensures
 
 pub returns-in-23 : goal.returns-in-23
 returns-in-23 c = at_row 23 _ _ _ c.in-23.is c.addcg.ensures

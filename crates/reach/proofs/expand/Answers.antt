@@ -18,4 +18,4 @@ found c = c.nexts.ensures ∙ rw (c.following.ensures, c.cut.ensures)
 
 pub returns-in-Two : goal.returns-in-Two
 returns-in-Two c =
-    rw (← found (goal.at.returns-in-Two c).After-nexts, c.in-Two.is) (joined_more _ _ _ c.insert-more.ensures c.insert-in-Two.ensures)
+    rw (← found (goal.at.returns-in-Two c).After-nexts, c.in-Two.is) (joined_more _ _ _ c.insert-in-Two.ensures c.insert-in-Two-2.ensures)

@@ -10,7 +10,9 @@ use Rattle.values.proofs.number.Goals as goal
 
 pub returns-then-v-ge2147483648 : goal.returns-then-v-ge2147483648
 returns-then-v-ge2147483648 c =
-    let v = c.loop-i.v * 10 + (get_or c.args.w.now c.loop-i.i 0 - 48) in
-    let e = c.loop-i.invariant.2 ∙ decimal_more c.loop-i.v c.loop-i.i c.args.w.now (omega arith) in
-    let g = decimal_grows v (drop (c.loop-i.i + 1) c.args.w.now) in
-    sym (within_high (decimal_from 0 c.args.w.now) 0 (rw e (le_trans c.if-v-ge2147483648.true g)))
+    let w = c.args.w.now in
+    let i = c.loop-d.d-index in
+    let v = c.loop-d.v * 10 + (get_or w i 0 - 48) in
+    let e = c.loop-d.invariant.1 ∙ decimal_more c.loop-d.v i w (omega arith) in
+    let g = decimal_grows v (drop (i + 1) w) in
+    sym (within_high (decimal_from 0 w) 0 (rw e (le_trans c.if-v-ge2147483648.true g)))

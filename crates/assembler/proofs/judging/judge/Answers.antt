@@ -1,30 +1,26 @@
-use mathlib.Core.Path.{◌≡◌, sym, ap, ◌∙◌}
-use Prim.Native.Nat.{suc, ◌+◌}
+use mathlib.Core.Path.{sym, ap, subst, ◌∙◌}
+use Prim.Native.Nat.{ℕ, ◌*◌, ◌≤◌}
 use native.Mathlib.Omega.{arith}
-use Rattle.source.specs.Walk.{Walk}
+use lib.ListN.{length}
+use Rattle.std.specs.Prelude.{Option, IfSome}
 use Rattle.source.specs.Seek.{walk_of}
-use Rattle.source.proofs.Places.{step_here, grown}
 use Rattle.assembler.specs.Passes.{number_at}
-use Rattle.assembler.specs.declared.judging.Verdict.TheVariants.{Sound}
-use Rattle.assembler.proofs.Judged.{judged, judged_here, judged_last, judged_inner}
+use Rattle.assembler.proofs.Judged.{judged, judged_on, judged_here, some_number}
 use Rattle.assembler.proofs.judging.judge.Goals as goal
 
-pub returns-then-number-ne0 : goal.returns-then-number-ne0
-returns-then-number-ne0 c =
-    let e = c.number-number.ensures ∙ ap (number_at c.args.text.now (walk_of c.loop-at.w) c.loop-at.at) c.read-l.ensures.0 in
-    (judged_here c.args.text.now c.loop-at.at c.line_length-n.result c.loop-at.i c.loop-at.invariant.0 c.line_length-n.ensures (walk_of c.loop-at.w) e c.if-number-ne0.true ∙ (sym c.loop-at.invariant.3 ∙ judged c.args.text.now), omega (arith, c.loop-at.invariant.0, c.loop-at.invariant.2))
+pub returns-in-Err : goal.returns-in-Err
+returns-in-Err c =
+    let text = c.args.labels.now.text.now in
+    let i = c.loop-line.invariant in
+    let s = c.in-Some.ensures.steps in
+    let g = s.0 in
+    let e = (rw c.in-Err.is at c.check.ensures) ∙ ap (number_at text (walk_of c.loop-line.w) c.in-Some.place) g.heard in
+    let h = judged_here g text i.0 (walk_of c.loop-line.w) c.loop-line.line-iterator.count e (some_number c.in-Err.wrong) in
+    let b = subst (λ (o : Option ℕ). IfSome o (λ at. (c.loop-line.w.count ≤ at * 2) × (c.loop-line.line-iterator.count ≤ at))) g.place i.1 in
+    (rw s.1 (sym (i.2 ∙ h) ∙ judged text), omega (arith, b.1, g.inside, ap length i.0, s.1))
 
-pub returns-then-end-text : goal.returns-then-end-text
-returns-then-end-text c =
-    let s = step_here c.args.text.now c.loop-at.at c.line_length-n.result c.loop-at.invariant.0 c.line_length-n.ensures c.step-w.result c.loop-at.w c.read-l.result c.read-l.ensures.0 c.step-w.ensures.0 in
-    let e = c.number-number.ensures ∙ ap (number_at c.args.text.now (walk_of c.loop-at.w) c.loop-at.at) c.read-l.ensures.0 in
-    (ap (λ (w : Walk). Sound w.count) s ∙ (judged_last c.args.text.now c.loop-at.at c.line_length-n.result c.loop-at.i c.loop-at.invariant.0 c.line_length-n.ensures (walk_of c.loop-at.w) e c.if-number-ne0.false c.if-end-text.true ∙ (sym c.loop-at.invariant.3 ∙ judged c.args.text.now)), tt)
-
-pub loop-at-preserved : goal.loop-at-preserved
-loop-at-preserved c =
-    let s = step_here c.args.text.now c.loop-at.at c.line_length-n.result c.loop-at.invariant.0 c.line_length-n.ensures c.step-w.result c.loop-at.w c.read-l.result c.read-l.ensures.0 c.step-w.ensures.0 in
-    let e = c.number-number.ensures ∙ ap (number_at c.args.text.now (walk_of c.loop-at.w) c.loop-at.at) c.read-l.ensures.0 in
-    let j = judged_inner c.args.text.now c.loop-at.at c.line_length-n.result c.loop-at.i c.loop-at.invariant.0 c.line_length-n.ensures (walk_of c.loop-at.w) e c.if-number-ne0.false c.if-end-text.false in
-    let k = grown c.read-l.result.operates c.loop-at.at c.line_length-n.result c.loop-at.invariant.1 c.step-w.ensures.2 c.step-w.ensures.3 (λ o. omega (arith, c.read-l.ensures.1.short o)) in
-    let m : suc c.loop-at.i ≡ c.loop-at.i + 1 = omega arith in
-    (omega arith, k, omega (arith, c.loop-at.invariant.2), c.loop-at.invariant.3 ∙ rw (← s, m) at j)
+pub returns : goal.returns
+returns c =
+    let text = c.args.labels.now.text.now in
+    let i = c.loop-line.invariant in
+    (sym (i.2 ∙ ap (λ (n : Option ℕ). judged_on text (walk_of c.loop-line.w) n c.loop-line.line-iterator.count) c.in-None.ensures.steps.0) ∙ judged text, tt)

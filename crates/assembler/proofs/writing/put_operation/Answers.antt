@@ -1,4 +1,3 @@
-use borrow.Author.Tests.{not-false}
 use mathlib.Core.Path.{ap, ◌∙◌}
 use Prim.Native.Nat.{◌+◌}
 use native.Mathlib.Omega.{arith}
@@ -10,14 +9,18 @@ use Rattle.assembler.proofs.Putting.{fills_size, fills_put}
 use Rattle.assembler.proofs.writing.put_operation.Goals as goal
 
 pub put_nops-requires : goal.put_nops-requires
-put_nops-requires c = omega (arith, fills_size c.args.line.now c.args.l (walk_of c.args.w) c.args.p.last (not-false c.args.l.operates c.if-not-l.false), c.requires.l_in_bounds.0)
+put_nops-requires c =
+    let r = rw c.in-Some.is at c.requires.room in
+    omega (arith, fills_size c.args.line.now c.in-Some.o (walk_of c.args.w) c.args.p.last, r.0, c.put_kept-out.ensures.1, c.saturating_sub-idle.ensures)
 
 pub returns : goal.returns
 returns c =
-    let o = not-false c.args.l.operates c.if-not-l.false in
-    let b = c.bits_of-bits.ensures.0 ∙ ap bits_of c.syllable.ensures.0 in (
-      c.put_nops.ensures ∙ rw (c.idle-n.ensures, c.put_kept-out.ensures.0) (fills_put c.args.line.now c.args.l (walk_of c.args.w) c.args.p.last o c.args.program.now c.args.p.out c.put_kept-out.ensures.1),
-      omega (arith, fills_size c.args.line.now c.args.l (walk_of c.args.w) c.args.p.last (not-false c.args.l.operates c.if-not-l.false), c.put_kept-out.ensures.1, c.idle-n.ensures),
-      rw o (c.opening.ensures.0 ∙ ap (λ x. x + pick (ltb c.args.l.operation.cluster c.args.w.opened) 0 opens) b),
+    let o = c.in-Some.o in
+    let w = walk_of c.args.w in
+    let b = c.bits_of-bits.ensures.0 ∙ ap bits_of c.syllable.ensures.0 in
+    rw c.in-Some.is (
+      c.put_nops.ensures ∙ rw (c.saturating_sub-idle.ensures, c.put_kept-out.ensures.0) (fills_put c.args.line.now o w c.args.p.last c.args.program.now c.args.p.out c.put_kept-out.ensures.1),
+      omega (arith, fills_size c.args.line.now o w c.args.p.last, c.put_kept-out.ensures.1, c.saturating_sub-idle.ensures),
+      c.opening.ensures.0 ∙ ap (λ x. x + pick (ltb o.cluster c.args.w.opened) 0 opens) b,
       c.opening.ensures.1,
     )

@@ -1,15 +1,11 @@
 use mathlib.Core.Path.{◌≡◌}
-use Prim.Native.Nat.{◌-◌, ◌≤◌}
-use lib.ListN.{length, drop}
+use mathlib.Core.List.{map}
 use Rattle.word.specs.Bytes.{words}
+use Rattle.isa.specs.Program.{spots, operation}
 use Rattle.isa.specs.Touch.{nexts}
-use Rattle.isa.proofs.Ways.{operations}
+use Rattle.isa.specs.Walk.{spots_left}
 use Rattle.isa.proofs.control.nexts.Given as goal
 
-abbrev pub invariant-loop-i : goal.invariant-loop-i
-invariant-loop-i l =
-    let os = operations (words l.stretch) in
-    (l.i ≤ length (words l.stretch)) × (nexts l.j.0 (drop l.i os) ≡ nexts l.j.0 os)
-
-abbrev pub decreases-loop-i : goal.decreases-loop-i
-decreases-loop-i l = l.i-end - l.i
+abbrev pub invariant-loop-x : goal.invariant-loop-x
+invariant-loop-x l =
+    nexts l.j.0 (map operation (spots_left l.x-iterator)) ≡ nexts l.j.0 (map operation (spots (words l.stretch)))

@@ -1,25 +1,26 @@
 -- By the number in bits 23..18.
 use borrow.Author.Tests.{ne_eqb}
 use mathlib.Core.Path.{sym, ◌∙◌}
+use native.Mathlib.Omega.{arith}
 use Rattle.isa.specs.declared.Format.TheVariants.{Still}
 use Rattle.isa.proofs.Arms.{as_way}
 use Rattle.isa.proofs.control.still.Goals as goal
 
-pub returns-then-number-eq1 : goal.returns-then-number-eq1
-returns-then-number-eq1 c = as_way _ Still _ c.requires (rw (sym c.bits-number.ensures ∙ c.if-number-eq1.true))
+pub returns-in-1 : goal.returns-in-1
+returns-in-1 c = as_way _ Still _ c.requires (rw (sym c.bits.ensures ∙ c.in-1.is))
 
-pub returns-then-number-eq2 : goal.returns-then-number-eq2
-returns-then-number-eq2 c = as_way _ Still _ c.requires (rw (sym c.bits-number.ensures ∙ c.if-number-eq2.true, c.bits.ensures))
+pub returns-in-2 : goal.returns-in-2
+returns-in-2 c = as_way _ Still _ c.requires (rw (sym c.bits.ensures ∙ c.in-2.is, c.bits-in-2.ensures))
 
-pub returns-then-number-eq3 : goal.returns-then-number-eq3
-returns-then-number-eq3 c = as_way _ Still _ c.requires (rw (sym c.bits-number.ensures ∙ c.if-number-eq3.true))
+pub returns-in-3 : goal.returns-in-3
+returns-in-3 c = as_way _ Still _ c.requires (rw (sym c.bits.ensures ∙ c.in-3.is))
 
-pub returns : goal.returns
-returns c =
+pub returns-in_default : goal.returns-in_default
+returns-in_default c =
     as_way _ Still _ c.requires
     (rw (
-      ← c.bits-number.ensures,
-      ne_eqb _ 1 c.if-number-eq1.false,
-      ne_eqb _ 2 c.if-number-eq2.false,
-      ne_eqb _ 3 c.if-number-eq3.false,
+      ← c.bits.ensures,
+      ne_eqb c.bits.result 1 (λ e. omega arith),
+      ne_eqb c.bits.result 2 (λ e. omega arith),
+      ne_eqb c.bits.result 3 (λ e. omega arith),
     ))

@@ -4,5 +4,5 @@ use native.Mathlib.Omega.{arith}
 use Rattle.isa.proofs.Ways.{way_along}
 use Rattle.isa.proofs.control.way.Goals as goal
 
-pub returns-then-o-le60 : goal.returns-then-o-le60
-returns-then-o-le60 c = sym (way_along c.args.s (omega (arith, c.opcode-o.ensures)) (omega (arith, c.opcode-o.ensures)))
+pub returns-in-1-to-60 : goal.returns-in-1-to-60
+returns-in-1-to-60 c = sym (way_along c.args.s (omega (arith, c.opcode.ensures)) (omega (arith, c.opcode.ensures)))

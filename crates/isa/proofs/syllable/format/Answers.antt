@@ -1,52 +1,43 @@
--- The code's tests are those of the definition, in its order.
-use Rattle.isa.specs.Syllable.{format_of}
-use Rattle.isa.proofs.Steps.{steps}
+-- By the range of the opcode.
+use mathlib.Core.Logic.{inl, inr}
+use mathlib.Core.Path.{sym}
+use native.Mathlib.Omega.{arith}
+use Rattle.isa.specs.declared.Format.TheVariants.{Still, Two, One, Carry, Test, Select, Load, Store, Copy, Jump, Fork}
+use Rattle.isa.proofs.Formats.{format_of_lem}
 use Rattle.isa.proofs.syllable.format.Goals as goal
 
-pub returns-then-o-eq0 : goal.returns-then-o-eq0
-unfolding format_of
-returns-then-o-eq0 c = search steps depth 14
+pub returns-in-0 : goal.returns-in-0
+returns-in-0 c = sym (format_of_lem Still _ (omega arith))
 
-pub returns-then-o-le18 : goal.returns-then-o-le18
-unfolding format_of
-returns-then-o-le18 c = search steps depth 14
+pub returns-in-1-to-18 : goal.returns-in-1-to-18
+returns-in-1-to-18 c = sym (format_of_lem Two _ (inl (omega arith, omega arith)))
 
-pub returns-then-o-le22 : goal.returns-then-o-le22
-unfolding format_of
-returns-then-o-le22 c = search steps depth 14
+pub returns-in-1-to-18-2 : goal.returns-in-1-to-18-2
+returns-in-1-to-18-2 c = sym (format_of_lem Two _ (inr (omega arith, omega arith)))
 
-pub returns-then-o-le23 : goal.returns-then-o-le23
-unfolding format_of
-returns-then-o-le23 c = search steps depth 14
+pub returns-in-19-to-22 : goal.returns-in-19-to-22
+returns-in-19-to-22 c = sym (format_of_lem One _ (omega arith, omega arith))
 
-pub returns-then-o-le39 : goal.returns-then-o-le39
-unfolding format_of
-returns-then-o-le39 c = search steps depth 14
+pub returns-in-23 : goal.returns-in-23
+returns-in-23 c = sym (format_of_lem Carry _ (omega arith))
 
-pub returns-then-o-le49 : goal.returns-then-o-le49
-unfolding format_of
-returns-then-o-le49 c = search steps depth 14
+pub returns-in-40-to-49 : goal.returns-in-40-to-49
+returns-in-40-to-49 c = sym (format_of_lem Test _ (omega arith, omega arith))
 
-pub returns-then-o-le51 : goal.returns-then-o-le51
-unfolding format_of
-returns-then-o-le51 c = search steps depth 14
+pub returns-in-50-to-51 : goal.returns-in-50-to-51
+returns-in-50-to-51 c = sym (format_of_lem Select _ (omega arith, omega arith))
 
-pub returns-then-o-le56 : goal.returns-then-o-le56
-unfolding format_of
-returns-then-o-le56 c = search steps depth 14
+pub returns-in-52-to-56 : goal.returns-in-52-to-56
+returns-in-52-to-56 c = sym (format_of_lem Load _ (omega arith, omega arith))
 
-pub returns-then-o-le59 : goal.returns-then-o-le59
-unfolding format_of
-returns-then-o-le59 c = search steps depth 14
+pub returns-in-57-to-59 : goal.returns-in-57-to-59
+returns-in-57-to-59 c = sym (format_of_lem Store _ (omega arith, omega arith))
 
-pub returns-then-o-le60 : goal.returns-then-o-le60
-unfolding format_of
-returns-then-o-le60 c = search steps depth 14
+pub returns-in-60 : goal.returns-in-60
+returns-in-60 c = sym (format_of_lem Copy _ (omega arith))
 
-pub returns-then-o-le61 : goal.returns-then-o-le61
-unfolding format_of
-returns-then-o-le61 c = search steps depth 14
+pub returns-in-61 : goal.returns-in-61
+returns-in-61 c = sym (format_of_lem Jump _ (omega arith))
 
-pub returns : goal.returns
-unfolding format_of
-returns c = search steps depth 14
+pub returns-in_default : goal.returns-in_default
+returns-in_default c = sym (format_of_lem Fork _ (omega arith))

@@ -1,11 +1,11 @@
-use mathlib.Core.Path.{◌≡◌}
-use Prim.Native.Nat.{◌-◌, ◌≤◌}
+use Prim.Native.Nat.{◌+◌, ◌*◌, ◌≤◌}
 use lib.ListN.{length}
 use Rattle.lines.proofs.Tables.{Begun}
 use Rattle.lines.proofs.reading.first_line.Given as goal
 
-abbrev pub invariant-loop-n : goal.invariant-loop-n
-invariant-loop-n l = (length l.text ≤ 32768) × (length l.table ≡ 10923) × (l.n ≤ 10923) × Begun l.text l.n l.table
+abbrev pub invariant-loop-item : goal.invariant-loop-item
+invariant-loop-item l =
+    (length l.text ≤ 32768) × (length l.table.items * 3 + length l.rest ≤ length l.text) × Begun l.text l.table.items l.rest
 
-abbrev pub decreases-loop-n : goal.decreases-loop-n
-decreases-loop-n l = 10923 - l.n
+abbrev pub decreases-loop-item : goal.decreases-loop-item
+decreases-loop-item l = length l.rest

@@ -1,24 +1,23 @@
--- After n turns the program is the n syllables that were put, and what the lines from here on hold.
-use mathlib.Core.Path.{sym, ◌∙◌}
-use Prim.Native.Nat.{◌+◌, ◌*◌}
+use mathlib.Core.Path.{◌≡◌}
+use Prim.Native.Nat.{◌-◌}
 use native.Mathlib.Omega.{arith}
-use lib.ListN.{drop}
+use lib.ListN.{length, length-drop}
+use Rattle.std.specs.Prelude.{Some}
 use Rattle.lines.specs.Items.{syllable_at}
-use Rattle.lines.proofs.Programs.{left_bad, left_more, line_after_lem}
+use Rattle.lines.specs.declared.items.Item.TheVariants.{Inner, Last}
+use Rattle.lines.proofs.Programs.{left_inner, left_last}
 use Rattle.lines.proofs.reading.instructions.Goals as goal
 
-pub returns-in-Nothing-clause-program_after : goal.returns-in-Nothing-clause-program_after
-returns-in-Nothing-clause-program_after c = left_bad _ c.args.text.now c.args.from c.loop-n.n c.loop-n.line c.loop-n.program c.loop-n.invariant.5 (omega arith) (sym c.in-Nothing.is ∙ c.put_syllable.ensures.0)
+pub loop-rest-preserved-in-Inner : goal.loop-rest-preserved-in-Inner
+loop-rest-preserved-in-Inner c =
+    let e : syllable_at c.loop-rest.rest.now ≡ Some (Inner c.in-Inner.w) = cc c.in-Some.ensures.is in
+    let d = c.in-Some.ensures.behind in
+    let l : length c.in-Some.behind.now ≡ length c.loop-rest.rest.now - 9 = rw d.0 (length-drop 9 c.loop-rest.rest.now) in
+    (c.loop-rest.invariant.0, omega arith, omega arith, left_inner c.loop-rest.invariant.3 (omega arith) c.push_word.ensures.is d.0 e)
 
-pub loop-n-preserved : goal.loop-n-preserved
-loop-n-preserved c =
-    let e = sym c.in-At.is ∙ c.put_syllable.ensures.0 in
-    let l = line_after_lem c.loop-n.line (syllable_at (drop (c.args.from + c.loop-n.n * 9) c.args.text.now)) e in (
-      c.loop-n.invariant.0,
-      omega arith,
-      c.loop-n.invariant.2,
-      omega arith,
-      omega arith,
-      rw c.put_syllable.ensures.1
-          (left_more _ c.args.text.now c.args.from c.loop-n.n c.loop-n.line c.loop-n.program c.loop-n.invariant.5 _ (omega arith) (omega arith) e),
-    )
+pub loop-rest-preserved : goal.loop-rest-preserved
+loop-rest-preserved c =
+    let e : syllable_at c.loop-rest.rest.now ≡ Some (Last c.in-Last.w) = cc c.in-Some.ensures.is in
+    let d = c.in-Some.ensures.behind in
+    let l : length c.in-Some.behind.now ≡ length c.loop-rest.rest.now - 9 = rw d.0 (length-drop 9 c.loop-rest.rest.now) in
+    (c.loop-rest.invariant.0, omega arith, omega arith, left_last c.loop-rest.invariant.3 (omega arith) c.push_word-in-Last.ensures.is d.0 e)

@@ -1,14 +1,13 @@
-use mathlib.Core.Path.{◌≡◌}
-use Prim.Native.Nat.{◌+◌, ◌-◌, ◌*◌, ◌≤◌}
-use lib.ListN.{length, drop}
+use Prim.Native.Nat.{◌+◌, ◌*◌, ◌≤◌}
+use lib.ListN.{length}
 use Rattle.lines.specs.Lines.{newline, pieces, program_from}
 use Rattle.lines.proofs.Programs.{Left}
 use Rattle.lines.proofs.reading.instructions.Given as goal
 
-abbrev pub invariant-loop-n : goal.invariant-loop-n
-invariant-loop-n l =
-    (length l.text ≤ 32768) × (length l.program ≡ 16384) × (l.from ≤ 32768) × (l.n * 9 ≤ 32776) × (l.line ≤ 4 + l.n)
-    × Left (program_from 4 (pieces newline (drop l.from l.text))) l.text l.from l.n l.line l.program
+abbrev pub invariant-loop-rest : goal.invariant-loop-rest
+invariant-loop-rest l =
+    (length l.text ≤ 32768) × (l.line + length l.rest ≤ 4 + length l.text) × (length l.program.items * 9 + length l.rest * 4 ≤ length l.text * 4)
+    × Left (program_from 4 (pieces newline l.text)) l.program.items l.line l.rest
 
-abbrev pub decreases-loop-n : goal.decreases-loop-n
-decreases-loop-n l = 4000 - l.n
+abbrev pub decreases-loop-rest : goal.decreases-loop-rest
+decreases-loop-rest l = length l.rest

@@ -1,7 +1,20 @@
--- The two banks are all registers.
-use Rattle.machine.proofs.Validity.{banks_break}
+-- One register after the other is tested.
+use native.Mathlib.Omega.{arith}
+use Rattle.std.proofs.Common.{ap, ◌∙◌}
+use Prim.Native.Nat.{ℕ}
+use mathlib.Core.Bool.{Bool}
+use Rattle.vliw.specs.Cell.{Registers, at}
+use Rattle.machine.specs.State.{registers_of}
+use Rattle.machine.specs.Valid.{bad_register}
+use Rattle.machine.proofs.Validity.{any_more, any_done}
 use Rattle.machine.proofs.valid.bad_registers.Goals as goal
 
+abbrev bad_at : Registers → ℕ → Bool
+bad_at l r = bad_register r (at l r)
+
+pub loop-r-preserved : goal.loop-r-preserved
+loop-r-preserved c =
+    any_more (bad_at (registers_of c.args.s.now)) c.loop-r.r (c.breaks-broken.ensures ∙ ap (bad_register c.loop-r.r) c.register.ensures) c.loop-r.invariant
+
 pub returns : goal.returns
-returns c =
-    banks_break c.requires c.bank_breaks.ensures c.bank_breaks-2.ensures
+returns c = any_done (bad_at (registers_of c.args.s.now)) c.loop-r.r 288 (omega arith) c.loop-r.invariant

@@ -1,13 +1,8 @@
 use Rattle.operations.proofs.Gathering.{refused, next}
 use Rattle.operations.proofs.items.operands.Goals as goal
 
-pub returns-in-Bad : goal.returns-in-Bad
-returns-in-Bad c = (
-  refused c.loop-i.invariant c.loop-i-test.true c.if-k-eq32.false c.in-Bad.is c.item_at.ensures,
-  tt,
-)
+pub returns-in_err-s : goal.returns-in_err-s
+returns-in_err-s c = rw c.from_residual.ensures (refused c.loop-k.invariant c.loop-k-test.true c.if-k-eq32.false c.in_err-s.was c.item_at.ensures, tt)
 
-pub loop-i-preserved : goal.loop-i-preserved
-loop-i-preserved c =
-    next c.loop-i.invariant c.loop-i-test.true c.if-k-eq32.false c.in-At.is
-    c.item_at.ensures c.joined-o.ensures
+pub loop-k-preserved : goal.loop-k-preserved
+loop-k-preserved c = next c.loop-k.invariant c.loop-k-test.true c.if-k-eq32.false c.in_ok-s.was c.item_at.ensures c.joined-o.ensures

@@ -7,10 +7,10 @@ use Rattle.isa.specs.Program.{spot_before}
 use Rattle.refusals.specs.Broken.{bad_control_at}
 use Rattle.refusals.proofs.control.bad_control.Given as goal
 
-abbrev pub invariant-loop-at : goal.invariant-loop-at
-invariant-loop-at l =
+abbrev pub invariant-loop-i : goal.invariant-loop-i
+invariant-loop-i l =
     let p = words l.program in
-    (l.at.0 ≤ length p) × (l.x ≡ spot_before p l.at.0) × NoneBelow (bad_control_at p) l.at.0
+    (l.i ≤ length p) × (l.x ≡ spot_before p l.i) × NoneBelow (bad_control_at p) l.i
 
-abbrev pub decreases-loop-at : goal.decreases-loop-at
-decreases-loop-at l = l.n - l.at.0
+abbrev pub decreases-loop-i : goal.decreases-loop-i
+decreases-loop-i l = l.i-end - l.i

@@ -1,19 +1,17 @@
 use mathlib.Core.Path.{◌≡◌}
-use Prim.Native.Nat.{◌+◌, ◌-◌, ◌≤◌}
-use lib.ListN.{length}
+use mathlib.Core.List.{map}
+use Prim.Native.Nat.{ℕ, ◌≤◌, ◌<◌}
+use lib.ListN.{length, get_or}
 use Rattle.word.specs.Bytes.{words}
 use Rattle.word.specs.Lists.{repeats}
-use Rattle.isa.specs.Program.{operations_at}
+use Rattle.isa.specs.Program.{nowhere, spots, operation}
 use Rattle.isa.specs.Touch.{destinations}
-use Rattle.refusals.proofs.Walks.{Walking}
+use Rattle.isa.specs.Walk.{spots_left}
 use Rattle.refusals.proofs.Stamps.{clashes, Sized}
 use Rattle.refusals.proofs.instructions.has_two_writes.Given as goal
 
-abbrev pub invariant-loop-i : goal.invariant-loop-i
-invariant-loop-i l =
-    let p = words l.program in
-    (length p ≡ l.i-end) × (l.i ≤ l.i-end) × Walking p l.at.0 l.i l.x × Sized (l.at.0 + 1) l.stamps
-    × (clashes (l.at.0 + 1) l.stamps (destinations (operations_at p l.i)) ≡ repeats (destinations (operations_at p l.at.0)))
-
-abbrev pub decreases-loop-i : goal.decreases-loop-i
-decreases-loop-i l = l.i-end - l.i
+abbrev pub invariant-loop-x : goal.invariant-loop-x
+invariant-loop-x l =
+    let xs = spots_left l.x-iterator in
+    ((j : ℕ) → j < length xs → (get_or xs j nowhere).opened ≤ 4) × Sized l.fn.n l.stamps
+    × (clashes l.fn.n l.stamps (destinations (map operation xs)) ≡ repeats (destinations (map operation (spots (words l.stretch)))))

@@ -40,57 +40,57 @@ no-mem : (c : Else-is_mem) → is_mem (opcode c.args.x.syllable) ≡ false
 no-mem c = mem_is c.before ∙ c.if-is_mem.false
 
 width : (c : After-take) (xs : List Spot)
-    → Part c.args.clusters c.args.x xs all c.args.all.now c.take.result c.take.new.left
+    → Part c.args.left.now.clusters c.args.x xs all c.args.left.now.width c.take.result c.take.new.left
 width c xs =
-    took_all c.args.clusters c.args.x xs c.cluster-c.ensures c.args.all.now c.take.new.left c.take.result c.take.ensures
+    took_all c.args.left.now.clusters c.args.x xs c.cluster-c.ensures c.args.left.now.width c.take.new.left c.take.result c.take.ensures
 
 fits : (c : Else-take) (xs : List Spot)
-    → Part c.args.clusters c.args.x xs all c.args.all.now false c.take.new.left
+    → Part c.args.left.now.clusters c.args.x xs all c.args.left.now.width false c.take.new.left
 fits c xs = rw c.if-take.false at (width c.before xs)
 
-pub returns-then-take : goal.returns-then-take
-returns-then-take c =
-    λ delays xs.
-    full c.args.clusters c.args.x xs (left_of c.args.clusters c.args.all.now c.args.alu.now c.args.mul.now c.args.mem.now c.args.copy.now) c.take.new.left
-    (rw c.if-take.true at (width (goal.at.returns-then-take c).After-take xs))
+pub returns-then-take-clause-is : goal.returns-then-take-clause-is
+returns-then-take-clause-is c =
+    λ xs.
+    full c.args.left.now.clusters c.args.x xs (left_of c.args.left.now.clusters c.args.left.now.width c.args.left.now.alu c.args.left.now.mul c.args.left.now.mem c.args.left.now.copy) c.take.new.left
+    (rw c.if-take.true at (width (goal.at.returns-then-take-clause-is c).After-take xs))
 
-pub returns-then-is_alu : goal.returns-then-is_alu
-returns-then-is_alu c =
-    let is = alu-is (goal.at.returns-then-is_alu c).After-is_alu ∙ c.if-is_alu.true in
+pub returns-then-is_alu-clause-is : goal.returns-then-is_alu-clause-is
+returns-then-is_alu-clause-is c =
+    let is = alu-is (goal.at.returns-then-is_alu-clause-is c).After-is_alu ∙ c.if-is_alu.true in
     let only = alu_only (opcode c.args.x.syllable) is in
-    let left = left_of c.args.clusters c.args.all.now c.args.alu.now c.args.mul.now c.args.mem.now c.args.copy.now in
-    λ delays xs.
-    parts c.args.clusters c.args.x xs left (left_of c.args.clusters c.take.new.left c.take-then-is_alu.new.left c.args.mul.now c.args.mem.now c.args.copy.now) false c.take-then-is_alu.result false false false c.take-then-is_alu.result (fits (goal.at.returns-then-is_alu c).Else-take xs)
-    (took_class c.args.clusters c.args.x xs c.cluster-c.ensures is_alu c.args.alu.now c.take-then-is_alu.new.left c.take-then-is_alu.result (is) c.take-then-is_alu.ensures) (none_class c.args.clusters c.args.x xs is_mul c.args.mul.now only.0) (none_class c.args.clusters c.args.x xs is_mem c.args.mem.now only.1) (none_copy c.args.clusters c.args.x xs c.args.copy.now only.2) (thrice c.take-then-is_alu.result)
+    let left = left_of c.args.left.now.clusters c.args.left.now.width c.args.left.now.alu c.args.left.now.mul c.args.left.now.mem c.args.left.now.copy in
+    λ xs.
+    parts c.args.left.now.clusters c.args.x xs left (left_of c.args.left.now.clusters c.take.new.left c.take-then-is_alu.new.left c.args.left.now.mul c.args.left.now.mem c.args.left.now.copy) false c.take-then-is_alu.result false false false c.take-then-is_alu.result (fits (goal.at.returns-then-is_alu-clause-is c).Else-take xs)
+    (took_class c.args.left.now.clusters c.args.x xs c.cluster-c.ensures is_alu c.args.left.now.alu c.take-then-is_alu.new.left c.take-then-is_alu.result (is) c.take-then-is_alu.ensures) (none_class c.args.left.now.clusters c.args.x xs is_mul c.args.left.now.mul only.0) (none_class c.args.left.now.clusters c.args.x xs is_mem c.args.left.now.mem only.1) (none_copy c.args.left.now.clusters c.args.x xs c.args.left.now.copy only.2) (thrice c.take-then-is_alu.result)
 
-pub returns-then-is_mul : goal.returns-then-is_mul
-returns-then-is_mul c =
-    let is = mul_is (goal.at.returns-then-is_mul c).After-is_mul ∙ c.if-is_mul.true in
+pub returns-then-is_mul-clause-is : goal.returns-then-is_mul-clause-is
+returns-then-is_mul-clause-is c =
+    let is = mul_is (goal.at.returns-then-is_mul-clause-is c).After-is_mul ∙ c.if-is_mul.true in
     let only = mul_only (opcode c.args.x.syllable) is in
-    let left = left_of c.args.clusters c.args.all.now c.args.alu.now c.args.mul.now c.args.mem.now c.args.copy.now in
-    λ delays xs.
-    parts c.args.clusters c.args.x xs left (left_of c.args.clusters c.take.new.left c.args.alu.now c.take-then-is_mul.new.left c.args.mem.now c.args.copy.now) false false c.take-then-is_mul.result false false c.take-then-is_mul.result (fits (goal.at.returns-then-is_mul c).Else-take xs)
-    (none_class c.args.clusters c.args.x xs is_alu c.args.alu.now (no-alu (goal.at.returns-then-is_mul c).Else-is_alu)) (took_class c.args.clusters c.args.x xs c.cluster-c.ensures is_mul c.args.mul.now c.take-then-is_mul.new.left c.take-then-is_mul.result (is) c.take-then-is_mul.ensures) (none_class c.args.clusters c.args.x xs is_mem c.args.mem.now only.0) (none_copy c.args.clusters c.args.x xs c.args.copy.now only.1) (twice c.take-then-is_mul.result)
+    let left = left_of c.args.left.now.clusters c.args.left.now.width c.args.left.now.alu c.args.left.now.mul c.args.left.now.mem c.args.left.now.copy in
+    λ xs.
+    parts c.args.left.now.clusters c.args.x xs left (left_of c.args.left.now.clusters c.take.new.left c.args.left.now.alu c.take-then-is_mul.new.left c.args.left.now.mem c.args.left.now.copy) false false c.take-then-is_mul.result false false c.take-then-is_mul.result (fits (goal.at.returns-then-is_mul-clause-is c).Else-take xs)
+    (none_class c.args.left.now.clusters c.args.x xs is_alu c.args.left.now.alu (no-alu (goal.at.returns-then-is_mul-clause-is c).Else-is_alu)) (took_class c.args.left.now.clusters c.args.x xs c.cluster-c.ensures is_mul c.args.left.now.mul c.take-then-is_mul.new.left c.take-then-is_mul.result (is) c.take-then-is_mul.ensures) (none_class c.args.left.now.clusters c.args.x xs is_mem c.args.left.now.mem only.0) (none_copy c.args.left.now.clusters c.args.x xs c.args.left.now.copy only.1) (twice c.take-then-is_mul.result)
 
-pub returns-then-is_mem : goal.returns-then-is_mem
-returns-then-is_mem c =
-    let is = mem_is (goal.at.returns-then-is_mem c).After-is_mem ∙ c.if-is_mem.true in
-    let left = left_of c.args.clusters c.args.all.now c.args.alu.now c.args.mul.now c.args.mem.now c.args.copy.now in
-    λ delays xs.
-    parts c.args.clusters c.args.x xs left (left_of c.args.clusters c.take.new.left c.args.alu.now c.args.mul.now c.take-then-is_mem.new.left c.args.copy.now) false false false c.take-then-is_mem.result false c.take-then-is_mem.result (fits (goal.at.returns-then-is_mem c).Else-take xs)
-    (none_class c.args.clusters c.args.x xs is_alu c.args.alu.now (no-alu (goal.at.returns-then-is_mem c).Else-is_alu)) (none_class c.args.clusters c.args.x xs is_mul c.args.mul.now (no-mul (goal.at.returns-then-is_mem c).Else-is_mul)) (took_class c.args.clusters c.args.x xs c.cluster-c.ensures is_mem c.args.mem.now c.take-then-is_mem.new.left c.take-then-is_mem.result (is) c.take-then-is_mem.ensures) (none_copy c.args.clusters c.args.x xs c.args.copy.now (mem_only (opcode c.args.x.syllable) is)) (or_nothing c.take-then-is_mem.result)
+pub returns-then-is_mem-clause-is : goal.returns-then-is_mem-clause-is
+returns-then-is_mem-clause-is c =
+    let is = mem_is (goal.at.returns-then-is_mem-clause-is c).After-is_mem ∙ c.if-is_mem.true in
+    let left = left_of c.args.left.now.clusters c.args.left.now.width c.args.left.now.alu c.args.left.now.mul c.args.left.now.mem c.args.left.now.copy in
+    λ xs.
+    parts c.args.left.now.clusters c.args.x xs left (left_of c.args.left.now.clusters c.take.new.left c.args.left.now.alu c.args.left.now.mul c.take-then-is_mem.new.left c.args.left.now.copy) false false false c.take-then-is_mem.result false c.take-then-is_mem.result (fits (goal.at.returns-then-is_mem-clause-is c).Else-take xs)
+    (none_class c.args.left.now.clusters c.args.x xs is_alu c.args.left.now.alu (no-alu (goal.at.returns-then-is_mem-clause-is c).Else-is_alu)) (none_class c.args.left.now.clusters c.args.x xs is_mul c.args.left.now.mul (no-mul (goal.at.returns-then-is_mem-clause-is c).Else-is_mul)) (took_class c.args.left.now.clusters c.args.x xs c.cluster-c.ensures is_mem c.args.left.now.mem c.take-then-is_mem.new.left c.take-then-is_mem.result (is) c.take-then-is_mem.ensures) (none_copy c.args.left.now.clusters c.args.x xs c.args.left.now.copy (mem_only (opcode c.args.x.syllable) is)) (or_nothing c.take-then-is_mem.result)
 
-pub returns-then-is_copy : goal.returns-then-is_copy
-returns-then-is_copy c =
-    let is = copy_is (goal.at.returns-then-is_copy c).After-is_copy ∙ c.if-is_copy.true in
-    let left = left_of c.args.clusters c.args.all.now c.args.alu.now c.args.mul.now c.args.mem.now c.args.copy.now in
-    λ delays xs.
-    parts c.args.clusters c.args.x xs left (left_of c.args.clusters c.take.new.left c.args.alu.now c.args.mul.now c.args.mem.now c.take_copy.new.left) false false false false c.take_copy.result c.take_copy.result (fits (goal.at.returns-then-is_copy c).Else-take xs)
-    (none_class c.args.clusters c.args.x xs is_alu c.args.alu.now (no-alu (goal.at.returns-then-is_copy c).Else-is_alu)) (none_class c.args.clusters c.args.x xs is_mul c.args.mul.now (no-mul (goal.at.returns-then-is_copy c).Else-is_mul)) (none_class c.args.clusters c.args.x xs is_mem c.args.mem.now (no-mem (goal.at.returns-then-is_copy c).Else-is_mem)) (took_copy c.args.clusters c.args.x xs c.cluster-c.ensures c.args.copy.now c.take_copy.new.left c.take_copy.result c.source.ensures is c.take_copy.ensures) refl
+pub returns-then-is_copy-clause-is : goal.returns-then-is_copy-clause-is
+returns-then-is_copy-clause-is c =
+    let is = copy_is (goal.at.returns-then-is_copy-clause-is c).After-is_copy ∙ c.if-is_copy.true in
+    let left = left_of c.args.left.now.clusters c.args.left.now.width c.args.left.now.alu c.args.left.now.mul c.args.left.now.mem c.args.left.now.copy in
+    λ xs.
+    parts c.args.left.now.clusters c.args.x xs left (left_of c.args.left.now.clusters c.take.new.left c.args.left.now.alu c.args.left.now.mul c.args.left.now.mem c.take_copy.new.left) false false false false c.take_copy.result c.take_copy.result (fits (goal.at.returns-then-is_copy-clause-is c).Else-take xs)
+    (none_class c.args.left.now.clusters c.args.x xs is_alu c.args.left.now.alu (no-alu (goal.at.returns-then-is_copy-clause-is c).Else-is_alu)) (none_class c.args.left.now.clusters c.args.x xs is_mul c.args.left.now.mul (no-mul (goal.at.returns-then-is_copy-clause-is c).Else-is_mul)) (none_class c.args.left.now.clusters c.args.x xs is_mem c.args.left.now.mem (no-mem (goal.at.returns-then-is_copy-clause-is c).Else-is_mem)) (took_copy c.args.left.now.clusters c.args.x xs c.cluster-c.ensures c.args.left.now.copy c.take_copy.new.left c.take_copy.result c.source.ensures is c.take_copy.ensures) refl
 
-pub returns : goal.returns
-returns c =
-    let left = left_of c.args.clusters c.args.all.now c.args.alu.now c.args.mul.now c.args.mem.now c.args.copy.now in
-    λ delays xs.
-    parts c.args.clusters c.args.x xs left (left_of c.args.clusters c.take.new.left c.args.alu.now c.args.mul.now c.args.mem.now c.args.copy.now) false false false false false false (fits (goal.at.returns c).Else-take xs)
-    (none_class c.args.clusters c.args.x xs is_alu c.args.alu.now (no-alu (goal.at.returns c).Else-is_alu)) (none_class c.args.clusters c.args.x xs is_mul c.args.mul.now (no-mul (goal.at.returns c).Else-is_mul)) (none_class c.args.clusters c.args.x xs is_mem c.args.mem.now (no-mem (goal.at.returns c).Else-is_mem)) (none_copy c.args.clusters c.args.x xs c.args.copy.now (copy_is (goal.at.returns c).After-is_copy ∙ c.if-is_copy.false)) refl
+pub returns-clause-is : goal.returns-clause-is
+returns-clause-is c =
+    let left = left_of c.args.left.now.clusters c.args.left.now.width c.args.left.now.alu c.args.left.now.mul c.args.left.now.mem c.args.left.now.copy in
+    λ xs.
+    parts c.args.left.now.clusters c.args.x xs left (left_of c.args.left.now.clusters c.take.new.left c.args.left.now.alu c.args.left.now.mul c.args.left.now.mem c.args.left.now.copy) false false false false false false (fits (goal.at.returns-clause-is c).Else-take xs)
+    (none_class c.args.left.now.clusters c.args.x xs is_alu c.args.left.now.alu (no-alu (goal.at.returns-clause-is c).Else-is_alu)) (none_class c.args.left.now.clusters c.args.x xs is_mul c.args.left.now.mul (no-mul (goal.at.returns-clause-is c).Else-is_mul)) (none_class c.args.left.now.clusters c.args.x xs is_mem c.args.left.now.mem (no-mem (goal.at.returns-clause-is c).Else-is_mem)) (none_copy c.args.left.now.clusters c.args.x xs c.args.left.now.copy (copy_is (goal.at.returns-clause-is c).After-is_copy ∙ c.if-is_copy.false)) refl

@@ -1,25 +1,33 @@
--- A search: no syllable passed is stray.
+-- The first spot that the walk finds is the lowest place.
+use mathlib.Core.Logic.{inl}
+use mathlib.Core.Path.{ap, ◌∙◌}
+use mathlib.Core.List.{List}
 use native.Mathlib.Omega.{arith}
-use borrow.Author.Count.{below_more}
+use lib.ListN.{length}
+use Rattle.std.proofs.Common.{rules}
+use Rattle.std.proofs.lemmas.Iterator.{IsFirst-from_position}
+use Rattle.std.proofs.lemmas.Iterator.Consumers.{YieldsList-from_first}
+use borrow.Author.Tests.{tests}
 use Rattle.word.specs.Bytes.{words}
 use Rattle.word.proofs.Bytes.{words_length}
+use Rattle.isa.specs.Program.{spots}
+use Rattle.isa.specs.Walk.{spots_left}
+use Rattle.isa.specs.declared.Spot.{Spot}
+use Rattle.isa.proofs.Instructions.{spots_length, spot_syllable}
+use Rattle.isa.proofs.Lowest.{lowest_same}
 use Rattle.refusals.specs.Broken.{bad_bits_at}
-use Rattle.refusals.proofs.Walks.{found_here, found_none}
+use Rattle.zero.specs.Zero.{bad_bits}
+use Rattle.refusals.proofs.Walks.{Passes, Fails, found_first, placed}
 use Rattle.refusals.proofs.syllables.bad_bits.Goals as goal
 
-pub syllable-requires : goal.syllable-requires
-syllable-requires c = omega (arith, words_length c.args.program.now)
-
-pub returns-then-bad_bits : goal.returns-then-bad_bits
-unfolding bad_bits_at
-returns-then-bad_bits c =
-    found_here c.args.program.now (bad_bits_at (words c.args.program.now)) c.loop-i.i c.loop-i.invariant c.loop-i-test.true (rw (← c.syllable.ensures, ← c.bad_bits.ensures) c.if-bad_bits.true)
-
-pub loop-i-preserved : goal.loop-i-preserved
-unfolding bad_bits_at
-loop-i-preserved c =
-    below_more _ _ c.loop-i.invariant (rw (← c.syllable.ensures, ← c.bad_bits.ensures) c.if-bad_bits.false)
-
 pub returns : goal.returns
+unfolding bad_bits_at
 returns c =
-    found_none c.args.program.now (bad_bits_at (words c.args.program.now)) c.loop-i.i c.loop-i.invariant c.loop-i-test.false
+    let first =
+    IsFirst-from_position c.position.new.self _ c.position.result (Passes (λ x. bad_bits x.syllable)) (Fails (λ x. bad_bits x.syllable)) c.position.ensures.ran (YieldsList-from_first (λ x. x) spots_left (spots (words c.args.program.now)) c.spots.ensures) (λ x q k. search (rules, tests)) (λ x q k. search (rules, tests)) in
+    found_first (words c.args.program.now) (λ x. bad_bits x.syllable) c.position.result first (placed c.position.result c.map.result c.map.ensures.cases (λ i x q. search rules))
+    ∙ lowest_same _ (bad_bits_at (words c.args.program.now)) _ (λ i h. ap bad_bits (spot_syllable (words c.args.program.now) i))
+
+pub position-requires-clause-fits : goal.position-requires-clause-fits
+position-requires-clause-fits c =
+    inl (omega (arith, ap (λ (l : List Spot). length l) c.spots.ensures, spots_length (words c.args.program.now), words_length c.args.program.now))

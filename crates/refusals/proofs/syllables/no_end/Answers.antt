@@ -7,13 +7,13 @@ use native.Mathlib.Omega.{arith}
 use lib.ListN.{length, get_or}
 use borrow.Author.Count.{below_more}
 use borrow.Author.Tests.{eq-eqb, ne_eqb}
+use Rattle.std.specs.Prelude.{Some, None}
 use Rattle.word.specs.Lists.{NoneBelow}
 use Rattle.word.specs.Bytes.{words}
 use Rattle.word.proofs.Bytes.{words_length}
 use Rattle.isa.specs.Control.{place}
 use Rattle.isa.specs.Lowest.{lowest}
 use Rattle.isa.specs.Syllable.{ends}
-use Rattle.isa.specs.declared.Found.TheVariants.{At, Nothing}
 use Rattle.isa.proofs.Lowest.{lowest_only}
 use Rattle.refusals.specs.Broken.{no_end_at}
 use Rattle.refusals.proofs.syllables.no_end.Goals as goal
@@ -27,10 +27,10 @@ module _ (p : List ℕ) (k : ℕ) (e : k + 1 ≡ length p) where
   unfolding no_end_at
   at_last t h = rw (eq-eqb (suc k) (length p) (omega arith), h)
 
-  none : ends (get_or p k 0) ≡ true → Nothing ≡ lowest (no_end_at p) (length p)
+  none : ends (get_or p k 0) ≡ true → None ≡ lowest (no_end_at p) (length p)
   none h = lowest_only (no_end_at p) (length p) (rw (← e) (below_more _ k earlier (at_last true h)))
 
-  some : ends (get_or p k 0) ≡ false → At (place k) ≡ lowest (no_end_at p) (length p)
+  some : ends (get_or p k 0) ≡ false → Some (place k) ≡ lowest (no_end_at p) (length p)
   some h = lowest_only (no_end_at p) (length p) (omega arith, at_last false h, earlier)
 
 pub syllable-requires : goal.syllable-requires

@@ -1,12 +1,14 @@
 use mathlib.Core.Path.{◌≡◌}
-use Prim.Native.Nat.{◌+◌, ◌*◌, ◌-◌, ◌≤◌}
-use lib.ListN.{length}
+use mathlib.Core.List.{map}
+use Prim.Native.Nat.{◌*◌, ◌≤◌}
+use Rattle.std.specs.Prelude.{IfSome}
 use Rattle.source.specs.Labels.{next}
+use Rattle.source.specs.Reader.{hear}
 use Rattle.source.specs.Seek.{walk_of, hear_from}
+use Rattle.source.specs.Each.{left}
 use Rattle.source.proofs.seeking.next_from.Given as goal
 
-abbrev pub invariant-loop-v : goal.invariant-loop-v
-invariant-loop-v l = (l.at ≤ length l.text) × (l.v.count ≤ l.at * 2) × (next (walk_of l.initial.v) (hear_from l.text l.from) ≡ next (walk_of l.v) (hear_from l.text l.at))
-
-abbrev pub decreases-loop-v : goal.decreases-loop-v
-decreases-loop-v l = length l.text + 1 - l.at
+abbrev pub invariant-loop-l : goal.invariant-loop-l
+invariant-loop-l l =
+    (l.l-iterator.text.now ≡ l.text) × IfSome l.l-iterator.next (λ at. l.v.count ≤ at * 2)
+    × (next (walk_of l.fn.w) (hear_from l.text l.from) ≡ next (walk_of l.v) (map hear (left l.l-iterator)))

@@ -1,8 +1,7 @@
 use mathlib.Core.Path.{◌≡◌}
-use mathlib.Core.List.{List}
-use Prim.Native.Nat.{ℕ, ◌+◌, ◌*◌, ◌-◌, ◌≤◌, ◌<◌}
+use mathlib.Core.List.{List, ◌++◌}
+use Prim.Native.Nat.{ℕ, ◌+◌, ◌*◌, ◌≤◌, ◌<◌}
 use lib.ListN.{length}
-use lib.Seq.{sets}
 use Rattle.vliw.specs.Cell.{landed}
 use Rattle.machine.specs.Image.{cell_in}
 use Rattle.text.specs.Rows.{index_of, register_row, each}
@@ -13,8 +12,5 @@ line image c r = register_row c r (landed (cell_in image (index_of c r)))
 
 abbrev pub invariant-loop-r : goal.invariant-loop-r
 invariant-loop-r l =
-    (l.r ≤ 72) × (length l.out ≡ length l.initial.out) × (l.at + 1080 ≤ length l.initial.out) × (length l.image ≡ 2888) × (l.c < 4) × (l.next ≤ l.at + 15 * l.r)
-    × (l.next ≡ l.at + length (each (line l.image l.c) l.r)) × (l.out ≡ sets l.initial.out l.at (each (line l.image l.c) l.r))
-
-abbrev pub decreases-loop-r : goal.decreases-loop-r
-decreases-loop-r l = 72 - l.r
+    (length l.initial.out.items + 1080 ≤ 4341) × (l.c < 4) × (length l.out.items ≤ length l.initial.out.items + 15 * l.r)
+    × (l.out.items ≡ l.initial.out.items ++ each (line l.image l.c) l.r)

@@ -1,9 +1,7 @@
 use mathlib.Core.Path.{refl}
-use Rattle.text.specs.Output.{printed_of}
+use Rattle.text.specs.Output.{Unread}
 use Rattle.text.proofs.Outputs.{alone}
 use Rattle.text.proofs.running.unread.Goals as goal
 
-pub returns : goal.returns
-unfolding printed_of
-returns c =
-    alone c.args.out.now 16 {c = 0} {p = c.args.line} refl refl c.put_answer.ensures
+pub returns-clause-is : goal.returns-clause-is
+returns-clause-is c = alone (Unread c.args.line) c.answered.ensures.is refl
