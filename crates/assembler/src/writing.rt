@@ -33,7 +33,8 @@ fn bits_of(s: Syllable) -> u32
     s.unwrap_or(0)
 }
 
-// Puts the syllable that is kept, if an instruction is open: how many are put then.
+// Puts the syllable that is kept, if an instruction is open: how many are put then. The program is lent by the C interface, and filled in its
+// place.
 fn put_kept(program: &mut [u8], out: usize, w: Walk, last: u32) -> usize
     requires { (out + length (kept (walk_of w) last)) * 4 ≤ length program.old }
     ensures { (program.new ≡ sets program.old (out * 4) (word_bytes (kept (walk_of w) last)))

@@ -33,7 +33,7 @@ fn syllables(program: &[u8; 16384], count: usize) -> Printed
     out
 }
 
-// The one line of a refusal.
+// The one line of a refusal: at this size what text has as `answered`; what they share is put_answer.
 fn refused(a: Answer) -> Printed
     ensures is { result.items ≡ answer_row a }
     ensures fits { array_vec_len result ≤ 36864 }

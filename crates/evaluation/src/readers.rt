@@ -12,7 +12,7 @@ use expressions::{is_label, is_number};
 use tokens::{Next, token_at};
 use values::Value;
 
-// A sign, and the place after it.
+// A sign, and the place after it. Apart from star_at, since each is held to its own test of the grammar.
 fn sign_at(line: &[u8], at: usize) -> Option<(u8, usize)>
     requires { at ≤ length line.now }
     ensures { Stands sign_at sign_of line.now at result }

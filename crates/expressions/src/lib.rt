@@ -71,6 +71,7 @@ pub fn skip(line: &[u8], at: usize) -> Option<usize>
                 if open == 16 {
                     return None;
                 }
+                // brackets are counted, not places
                 open += 1;
                 p = n;
             }

@@ -21,7 +21,7 @@ use Rattle.memory.specs.declared.Store.{Store}
 use Rattle.machine.specs.Instruction.{Fired, is_store, access_of, value_in, result_values, stores_of, fault_of, Next, next_by}
 use Rattle.gather.specs.Gather.{next_from, Formed, is_turn, turn_in, dest_in, computed_of, values_by, Noted, Holds, Acts, Does}
 use Rattle.memory.specs.Held.{Within, Stores}
-use Rattle.gather.specs.Scratch.{Scratch}
+use Rattle.gather.specs.declared.Scratch.{Scratch}
 use Rattle.gather.specs.declared.Seen.{Seen}
 use Rattle.isa.proofs.Formats.{within_true, within_false}
 use Rattle.gather.proofs.Opcodes.{memory_range, plain_class, control_no_memory, no_load, no_store, goes_along, memory_goes_along, control_silent}

@@ -26,7 +26,7 @@ use Rattle.isa.proofs.Instructions.{spots_length, spot_syllable, opened_inside}
 use Rattle.machine.specs.Instruction.{Fired, fire}
 use Rattle.ticks.specs.Ticks.{register_at, views, Bank}
 use Rattle.ticks.specs.declared.Register.{Register}
-use Rattle.gather.specs.Scratch.{Scratch}
+use Rattle.gather.specs.declared.Scratch.{Scratch}
 use Rattle.gather.specs.Gather.{op_busy, Own, named_late, op_late, fire_at, Acts, Does, fired, Came, Gathered}
 use Rattle.memory.specs.Memory.{◌or_else◌}
 use Rattle.std.specs.Prelude.{Option, None, Some}

@@ -23,7 +23,7 @@ use Rattle.machine.specs.Instruction.{Fired, fire, value_in, result_values, stor
 use Rattle.ticks.specs.Ticks.{register_at, dests_in, values_in, Results}
 use Rattle.ticks.specs.declared.Register.{Register}
 use Rattle.ticks.specs.declared.Made.{Made}
-use Rattle.gather.specs.Scratch.{Scratch}
+use Rattle.gather.specs.declared.Scratch.{Scratch}
 use Rattle.gather.specs.declared.Seen.{Seen}
 use Rattle.gather.specs.declared.Course.{Course}
 use Rattle.gather.specs.declared.Course.TheVariants.{Open, Stop, Set, Call, Back}

@@ -1,2 +1,1 @@
-pub mod Scratch
 pub mod Gather

@@ -16,7 +16,7 @@ ghost use Rattle.machine.specs.Instruction.{address_of, value_in, Next, next_by}
 ghost use Rattle.ticks.specs.Ticks.{Results};
 ghost use Rattle.gather.specs.Gather.{Own, Timely, Flying, Formed, is_turn, turn_in, named_late, op_late, fire_at, dest_in, values_by, Noted, Holds, Acts, Does, Gathered};
 ghost use Rattle.gather.specs.declared.Course.TheVariants.{Open};
-ghost use Rattle.gather.specs.Scratch.{Scratch};
+ghost use Rattle.gather.specs.declared.Scratch.{Scratch};
 
 use isa::control::turn;
 use isa::stretch::{opened, opened_by, syllable};
@@ -40,7 +40,8 @@ pub enum Course {
 }
 
 // What the operations so far came to: whether one names a register in flight, and then nothing else counts; where the first that decides it
-// goes on; and the first fault of their accesses.
+// goes on; and the first fault of their accesses. `busy` is asked once, after the walk: as an Option around the rest it would be opened at each
+// operation.
 #[derive(Clone, Copy)]
 pub struct Seen {
     pub busy: bool,
@@ -49,29 +50,67 @@ pub struct Seen {
     pub place: Place,
 }
 
-// The results and the stores of the operations so far. Not the kit's ArrayVec, whose `clear` writes blanks over what it drops: with a call of
-// memset at each instruction a loop of adds takes a seventh more machine instructions.
+// At most N of a kind. Not the kit's ArrayVec, whose `clear` writes blanks over what it drops: with two calls of memset at each instruction
+// the loops miss "not slower by 5 %" (docs/DECISIONS.md).
+#[derive(Drop)]
+struct Filled<T, const N: usize> {
+    places: [T; N],
+    count: usize,
+}
+
+impl<T, const N: usize> Model for Filled<T, N> {
+    ghost use Rattle.std.specs.Prelude.{List, ◌≤◌, take};
+
+    ghost Value = { List T };
+
+    ghost view = { λ f. take f.count f.places };
+
+    ghost invariant = { λ f. f.count ≤ N };
+}
+
+impl<T: Copy + Default, const N: usize> Filled<T, N> {
+    fn new() -> Filled<T, N>
+        ensures { result ≡ [] }
+    {
+        Filled {
+            places: [T::default(); N],
+            count: 0,
+        }
+    }
+
+    #[inline(always)]
+    fn clear(&mut self)
+        ensures { self.new ≡ [] }
+    {
+        self.count = 0;
+    }
+
+    #[inline(always)]
+    fn push(&mut self, x: T)
+        requires { length self.old < N }
+        ensures { self.new ≡ self.old ++ x ∷ [] }
+    {
+        self.places[self.count] = x;
+        self.count += 1;
+    }
+
+    #[inline(always)]
+    fn as_slice(&self) -> &[T]
+        ensures { result.now ≡ self.now }
+    {
+        &self.places[..self.count]
+    }
+}
+
+// The results and the stores of the operations so far.
 #[derive(Drop)]
 pub struct Scratch {
-    made: [Made; 64],
-    results: usize,
-    laid: [Store; 32],
-    stores: usize,
+    results: Filled<Made, 64>,
+    stores: Filled<Store, 32>,
 }
 
-impl Model for Scratch {
-    ghost use Rattle.std.specs.Prelude.{◌≤◌, take};
-    ghost use Rattle.gather.specs.Scratch.{Scratch as Held};
-
-    ghost Value = { Held };
-
-    ghost view = { λ s. record { results = take s.results s.made; stores = take s.stores s.laid } };
-
-    ghost invariant = { λ s. (s.results ≤ 64) × (s.stores ≤ 32) };
-}
-
-// What an instruction finds, at tick t: all that it reads is as it stood before it. `flying`: whether a register may be in flight. `end`
-// follows it.
+// What an instruction finds, at tick t: all that it reads is as it stood before it. `flying`: whether a register may be in flight, which says
+// nothing of the other fields. `end` follows it.
 #[derive(Clone, Copy)]
 pub struct Before<'a> {
     pub registers: &'a Registers,
@@ -80,6 +119,8 @@ pub struct Before<'a> {
     pub t: Count,
     pub flying: bool,
     pub end: Place,
+    pub ghost timely: { Timely delays },
+    pub ghost idle: { Flying flying t.0 registers.now.all },
 }
 
 // The values of what an operation reads: s1, s2 or the immediate, and b.
@@ -95,48 +136,21 @@ impl Scratch {
         ensures { (result.results ≡ []) × (result.stores ≡ []) }
     {
         Scratch {
-            made: [Made::default(); 64],
-            results: 0,
-            laid: [Store::default(); 32],
-            stores: 0,
+            results: Filled::new(),
+            stores: Filled::new(),
         }
     }
 
     pub fn results(&self) -> &[Made]
         ensures { result.now ≡ self.now.results }
     {
-        &self.made[..self.results]
+        self.results.as_slice()
     }
 
     pub fn stores(&self) -> &[Store]
         ensures { result.now ≡ self.now.stores }
     {
-        &self.laid[..self.stores]
-    }
-
-    fn clear(&mut self)
-        ensures { (self.new.results ≡ []) × (self.new.stores ≡ []) }
-    {
-        self.results = 0;
-        self.stores = 0;
-    }
-
-    fn note(&mut self, m: Made)
-        requires { length self.old.results < 64 }
-        ensures results { self.new.results ≡ self.old.results ++ m ∷ [] }
-        ensures stores { self.new.stores ≡ self.old.stores }
-    {
-        self.made[self.results] = m;
-        self.results += 1;
-    }
-
-    fn lay(&mut self, s: Store)
-        requires { length self.old.stores < 32 }
-        ensures stores { self.new.stores ≡ self.old.stores ++ s ∷ [] }
-        ensures results { self.new.results ≡ self.old.results }
-    {
-        self.laid[self.stores] = s;
-        self.stores += 1;
+        self.stores.as_slice()
     }
 }
 
@@ -178,10 +192,13 @@ impl Seen {
     }
 }
 
+// In clauses stand what decoding says of an operation (`Formed`): it is isa's Op, and a type around it would put one more name before each of its
+// fields; what scratch holds (`Results`, `Holds`), which is so of this memory, and scratch has none; and how far the numbers of registers and
+// clusters go, which are isa's.
 impl Before<'_> {
     // ---- registers
 
-    // Whether register r is in flight, where 0 stands for none: the compiler leaves the test out where a form has none.
+    // Whether register r of an Op is in flight, where 0 stands for none as in isa's Op: the compiler leaves the test out where a form has none.
     fn named_late(&self, r: u32) -> bool
         requires { r < 288 }
         ensures { result ≡ named_late self.now.t.0 self.now.registers.now.all r }
@@ -193,7 +210,6 @@ impl Before<'_> {
     #[tactic(auto, using(crate::proofs::Idle::idle_late))]
     fn late(&self, op: Op) -> bool
         requires formed { Formed op }
-        requires flying { Flying self.now.flying self.now.t.0 self.now.registers.now.all }
         ensures { result ≡ op_late self.now.t.0 self.now.registers.now.all op }
     {
         self.flying
@@ -225,7 +241,6 @@ impl Before<'_> {
 
     // One more result of the operation, unless register r is 0.
     fn result(&self, opcode: u32, r: u32, v: u32, scratch: &mut Scratch)
-        requires timely { Timely self.now.delays }
         requires results { Results scratch.old.results }
         requires room { (length scratch.old.results < 64) × (r < 288) }
         ensures noted { Noted 1 scratch.old.results scratch.new.results (dest_in self.now.delays opcode r []) (value_in r v []) }
@@ -235,7 +250,7 @@ impl Before<'_> {
             return;
         }
         let after = delay(self.delays, opcode, r);
-        scratch.note(Made {
+        scratch.results.push(Made {
             register: r,
             value: v,
             delay: after,
@@ -245,7 +260,6 @@ impl Before<'_> {
     // The results of an operation that computes.
     fn compute(&self, op: Op, scratch: &mut Scratch)
         requires formed { Formed op }
-        requires timely { Timely self.now.delays }
         requires results { Results scratch.old.results }
         requires room { length scratch.old.results < 63 }
         ensures noted { let e = fire_at self.now.registers.now.all op in
@@ -266,8 +280,6 @@ impl Before<'_> {
     // An operation that computes.
     fn computes(&self, op: Op, s: Seen, scratch: &mut Scratch) -> Seen
         requires formed { Formed op }
-        requires timely { Timely self.now.delays }
-        requires flying { Flying self.now.flying self.now.t.0 self.now.registers.now.all }
         requires holds { Holds (length self.now.memory.now) scratch.old }
         requires room { (length scratch.old.results < 63) × (0 < op.opcode) × (op.opcode ≤ 51) }
         ensures { Does (op_late self.now.t.0 self.now.registers.now.all op) self.now.delays self.now.memory.now self.now.end.0 (fire_at self.now.registers.now.all op) s scratch.old result scratch.new }
@@ -282,8 +294,6 @@ impl Before<'_> {
     // A copy, which keeps its source.
     fn copies(&self, op: Op, s: Seen, scratch: &mut Scratch) -> Seen
         requires formed { Formed op }
-        requires timely { Timely self.now.delays }
-        requires flying { Flying self.now.flying self.now.t.0 self.now.registers.now.all }
         requires holds { Holds (length self.now.memory.now) scratch.old }
         requires room { (length scratch.old.results < 63) × (op.opcode ≡ 60) }
         ensures { Does (op_late self.now.t.0 self.now.registers.now.all op) self.now.delays self.now.memory.now self.now.end.0 (fire_at self.now.registers.now.all op) s scratch.old result scratch.new }
@@ -308,7 +318,6 @@ impl Before<'_> {
     // A load from a.
     fn load(&self, op: Op, a: u32, scratch: &mut Scratch)
         requires formed { Formed op }
-        requires timely { Timely self.now.delays }
         requires results { Results scratch.old.results }
         requires room { (length scratch.old.results < 64) × (size_of op.opcode + a ≤ length self.now.memory.now) }
         ensures noted { Noted 1 scratch.old.results scratch.new.results
@@ -332,7 +341,7 @@ impl Before<'_> {
             ≡ scratch.old.stores ++ record { at = a; size = n; value = stored op.opcode (fire_at self.now.registers.now.all op).stored } ∷ [] }
         ensures results { scratch.new.results ≡ scratch.old.results }
     {
-        scratch.lay(Store {
+        scratch.stores.push(Store {
             at: a,
             size: n,
             value: ops::stored(op.opcode, self.registers.made(op.stored)),
@@ -342,7 +351,6 @@ impl Before<'_> {
     // A load or a store where there was no fault before it.
     fn access(&self, op: Op, s: Seen, scratch: &mut Scratch) -> Seen
         requires formed { Formed op }
-        requires timely { Timely self.now.delays }
         requires holds { Holds (length self.now.memory.now) scratch.old }
         requires room { (length scratch.old.results < 63) × (length scratch.old.stores < 32) × (is_mem op.opcode ≡ true) × (s.fault ≡ None) }
         ensures { Acts self.now.delays self.now.memory.now self.now.end.0 (fire_at self.now.registers.now.all op) s scratch.old result scratch.new }
@@ -367,8 +375,6 @@ impl Before<'_> {
     // A load or a store; after a fault nothing is asked of it.
     fn accesses(&self, op: Op, s: Seen, scratch: &mut Scratch) -> Seen
         requires formed { Formed op }
-        requires timely { Timely self.now.delays }
-        requires flying { Flying self.now.flying self.now.t.0 self.now.registers.now.all }
         requires holds { Holds (length self.now.memory.now) scratch.old }
         requires room { (length scratch.old.results < 63) × (length scratch.old.stores < 32) × (is_mem op.opcode ≡ true) }
         ensures { Does (op_late self.now.t.0 self.now.registers.now.all op) self.now.delays self.now.memory.now self.now.end.0 (fire_at self.now.registers.now.all op) s scratch.old result scratch.new }
@@ -400,7 +406,6 @@ impl Before<'_> {
     // A control operation.
     fn turns(&self, op: Op, s: Seen) -> Seen
         requires formed { Formed op }
-        requires flying { Flying self.now.flying self.now.t.0 self.now.registers.now.all }
         requires turn { is_turn op.opcode ≡ true }
         ensures { (a : Scratch) → Holds (length self.now.memory.now) a
             → Does (op_late self.now.t.0 self.now.registers.now.all op) self.now.delays self.now.memory.now self.now.end.0 (fire_at self.now.registers.now.all op) s a result a }
@@ -417,8 +422,6 @@ impl Before<'_> {
     // register, so that nothing is asked.
     fn step(&self, c: u32, w: u32, s: Seen, scratch: &mut Scratch) -> Seen
         requires c_bound { c < 4 }
-        requires timely { Timely self.now.delays }
-        requires flying { Flying self.now.flying self.now.t.0 self.now.registers.now.all }
         requires holds { Holds (length self.now.memory.now) scratch.old }
         requires room { (length scratch.old.results < 63) × (length scratch.old.stores < 32) }
         ensures { Does (op_late self.now.t.0 self.now.registers.now.all (decode c w)) self.now.delays self.now.memory.now self.now.end.0 (fire_at self.now.registers.now.all (decode c w))
@@ -436,12 +439,11 @@ impl Before<'_> {
     // All operations of the instruction of this stretch, and scratch holds their results and stores.
     pub fn collect(&self, stretch: &[u8], scratch: &mut Scratch) -> Seen
         requires own { Own (spots (words stretch.now)) }
-        requires timely { Timely self.now.delays }
-        requires flying { Flying self.now.flying self.now.t.0 self.now.registers.now.all }
         ensures { Gathered (op_late self.now.t.0 self.now.registers.now.all) (fire_at self.now.registers.now.all) self.now.delays
             self.now.memory.now self.now.end.0 (map operation (spots (words stretch.now))) result scratch.new }
     {
-        scratch.clear();
+        scratch.results.clear();
+        scratch.stores.clear();
         let mut s = Seen {
             busy: false,
             course: Course::Open,
@@ -449,6 +451,7 @@ impl Before<'_> {
             place: self.end,
         };
         let mut clusters = 0;
+        // by number: it is the slot that is asked for
         for j in 0..stretch.len() / 4 {
             let w = syllable(stretch, Slot(j));
             clusters = opened(clusters, w);

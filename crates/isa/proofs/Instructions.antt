@@ -3,12 +3,14 @@ use mathlib.Core.Path.{◌≡◌, refl, sym, ap, subst, ◌∙◌}
 use mathlib.Core.Logic.{⊎_elim}
 use mathlib.Core.Bool.{Bool, true, false, false≢true}
 use mathlib.Core.List.{List, [], ◌∷◌, map}
-use Prim.Native.Nat.{ℕ, zero, suc, ◌+◌, ◌-◌, ◌≤◌, ◌<◌, zero-le, suc-le-suc}
+use Prim.Native.Nat.{ℕ, zero, suc, ◌+◌, ◌-◌, ◌/◌, ◌≤◌, ◌<◌, zero-le, suc-le-suc}
 use native.Mathlib.Nat.{add-zero, zero-add, le_refl, not-suc-le-zero, le_of_suc-le-suc, eq-or-lt_of_le}
 use native.Mathlib.Omega.{arith}
 use lib.ListN.{length, get_or, take, drop, length-map, drop_of_length-le, get_or-map}
 use lib.Seq.{drop-cons, get_or-take, get_or-drop}
+use Rattle.word.specs.Bytes.{words}
 use Rattle.word.specs.Choice.{pick, bit}
+use Rattle.word.proofs.Bytes.{words_length}
 use Rattle.word.proofs.Choice.{never_both, is_false}
 use Rattle.word.proofs.Lists.{get_d_any}
 use Rattle.isa.specs.Syllable.{ends, opens}
@@ -254,3 +256,7 @@ operation_at p i j d h =
     get_d_any (operations_at p i) j d (operation nowhere) (omega (arith, operations_length p i))
     ∙ get_or-map operation (instruction_at p i) j nowhere
     ∙ rw (instruction_at_lem p i j nowhere h, spot_syllable p (i + j))
+
+-- an instruction's stretch is as long as the instruction
+pub after : (p : List ℕ) (at : ℕ) (l : List ℕ) → spots (words l) ≡ instruction_at p at → at + length l / 4 ≡ following p at
+after p at l e = omega (arith, words_length l, spots_length (words l), ap (λ (xs : List Spot). length xs) e)

@@ -1,12 +1,10 @@
--- A shift and a mask take bits hi..lo out of a word; a field's bound; a field widened by sign.
+-- A shift and a mask take bits hi..lo out of a word; a field's bound.
 use mathlib.Core.Path.{◌≡◌, sym, ◌∙◌, ap}
-use Prim.Native.Nat.{ℕ, suc, ◌+◌, ◌-◌, ◌/◌, ◌%◌, ◌^◌, ◌≤◌, ◌<◌}
-use native.Mathlib.Nat.{mod-lt, mod-mod}
+use Prim.Native.Nat.{ℕ, suc, ◌+◌, ◌-◌, ◌/◌, ◌^◌, ◌≤◌, ◌<◌}
+use native.Mathlib.Nat.{mod-lt}
 use native.Mathlib.Omega.{arith}
-use borrow.Author.Tests.{lt-ltb, le-ltb}
 use lib.Bits.{bit_and, and_mask}
 use lib.Pow.{pow_pos, ones_split, ones_lt, high}
-use Rattle.word.specs.Widen.{widen}
 use Rattle.isa.specs.Syllable.{bits}
 
 -- the mask: the ones of 32 bits, shifted until as many are left as the field has
@@ -20,11 +18,3 @@ field s hi lo h k = rw (mask (suc hi - lo) (31 - (hi - lo)) (omega arith)) (and_
 -- a field of n bits
 pub field_below : (s hi lo n : ℕ) → suc hi - lo ≡ n → bits hi lo s < 2 ^ n
 field_below s hi lo n e = rw e (mod-lt (s / 2 ^ lo) (pow_pos n))
-
--- a number of k bits, widened: as it is below half of 2 ^ k, and with the ones above it from there on
-module _ (k x : ℕ) {low : ℕ} (e : low ≡ x % 2 ^ k) where
-  pub widen_low : low < 2 ^ (k - 1) → low ≡ widen k (x % 2 ^ k)
-  widen_low h = rw (mod-mod x (2 ^ k), ← e, lt-ltb low (2 ^ (k - 1)) h)
-
-  pub widen_high : 2 ^ (k - 1) ≤ low → low + (2 ^ 32 - 2 ^ k) ≡ widen k (x % 2 ^ k)
-  widen_high h = rw (mod-mod x (2 ^ k), ← e, le-ltb low (2 ^ (k - 1)) h)

@@ -6,3 +6,4 @@ pub mod Program
 pub mod Touch
 pub mod Lowest
 pub mod Walk
+pub mod Cuts

@@ -6,6 +6,7 @@ ghost use Rattle.isa.specs.Decode.{immediate_of, offset_of, two_to, decode};
 
 use crate::syllable::{bits, holds, opcode, source, within};
 use crate::{Destinations, Op, Way, control};
+use word::field::widen;
 
 // What names no register and no number, and goes along.
 const NOTHING: Op = Op {
@@ -57,16 +58,14 @@ fn branch_at(c: u32, s: u32, lo: u32) -> u32
 pub fn immediate(s: u32) -> u32
     ensures { result ≡ immediate_of s }
 {
-    let low = bits(s, 10, 0);
-    if low < 0x400 { low } else { low + 0xffff_f800 }
+    widen::<11>(bits(s, 10, 0))
 }
 
 // Bits 11..0, signed.
 pub fn offset(s: u32) -> u32
     ensures { result ≡ offset_of s }
 {
-    let low = bits(s, 11, 0);
-    if low < 0x800 { low } else { low + 0xffff_f000 }
+    widen::<12>(bits(s, 11, 0))
 }
 
 // s2 is a register or a number.
@@ -116,7 +115,9 @@ fn narrow(c: u32, s: u32) -> Op
     }
 }
 
-// Opcodes 1 to 51: what computes. The forms with s2 as a register or a number stand together, since most operations have them.
+// Opcodes 1 to 51: what computes. The forms with s2 as a register or a number stand together, since most operations have them. Each range is
+// inlined, since the run's loop decodes by it: called, an Op is built in memory, a fifth more machine instructions for adds.
+#[inline(always)]
 pub fn compute(c: u32, s: u32) -> Op
     requires { (c < 4) × (0 < opcode s) × (opcode s ≤ 51) }
     ensures { result ≡ decode c s }
@@ -140,6 +141,7 @@ pub fn compute(c: u32, s: u32) -> Op
 }
 
 // Opcodes 52 to 59: loads and stores. A store reads the register that a load writes.
+#[inline(always)]
 pub fn access(c: u32, s: u32) -> Op
     requires { (c < 4) × (52 ≤ opcode s) × (opcode s ≤ 59) }
     ensures { result ≡ decode c s }
@@ -162,6 +164,7 @@ pub fn access(c: u32, s: u32) -> Op
 }
 
 // Opcode 60.
+#[inline(always)]
 pub fn copy(c: u32, s: u32) -> Op
     requires { (c < 4) × (opcode s ≡ 60) }
     ensures { result ≡ decode c s }
@@ -175,6 +178,7 @@ pub fn copy(c: u32, s: u32) -> Op
 }
 
 // Opcode 0.
+#[inline(always)]
 pub fn still(s: u32) -> Op
     requires { opcode s ≡ 0 }
     ensures { (c : ℕ) → result ≡ decode c s }
@@ -187,6 +191,7 @@ pub fn still(s: u32) -> Op
 }
 
 // Opcodes 61 to 63.
+#[inline(always)]
 pub fn jump(c: u32, s: u32) -> Op
     requires { (c < 4) × (61 ≤ opcode s) }
     ensures { result ≡ decode c s }

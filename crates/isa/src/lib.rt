@@ -2,6 +2,7 @@
 #![tactic(auto)]
 
 pub mod control;
+pub mod cuts;
 pub mod decode;
 pub mod program;
 pub mod stretch;

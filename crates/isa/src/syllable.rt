@@ -3,7 +3,6 @@ ghost use Rattle.std.specs.Prelude.{◌≡◌, ◌≤◌, eqb};
 ghost use Rattle.isa.specs.Syllable.{bits, ends, opens, opcode, source, format_of, is_alu, is_mul, is_mem, is_copy, within};
 
 use crate::Format;
-use crate::truth::both;
 
 // Bits hi..lo.
 pub fn bits(s: u32, hi: u32, lo: u32) -> u32
@@ -77,7 +76,7 @@ pub fn within(first: u32, last: u32, o: u32) -> bool
 pub fn is_alu(o: u32) -> bool
     ensures { result ≡ is_alu o }
 {
-    both(within(1, 51, o), !within(24, 29, o))
+    within(1, 51, o) && !within(24, 29, o)
 }
 
 pub fn is_mul(o: u32) -> bool

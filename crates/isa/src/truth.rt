@@ -1,4 +1,4 @@
-// Two tests joined, with no branch left in the functions that use them.
+// Two tests joined. No code needs them beside `||` and `&&`: the theorems either_one and both_one speak of them.
 ghost use Rattle.std.specs.Prelude.{◌≡◌, ◌||◌, ◌&&◌};
 
 pub fn either(a: bool, b: bool) -> bool

@@ -15,6 +15,7 @@ pub struct Walk<'a> {
     ghost few: { before.opened + length left.now < 2 ^ 63 },
 }
 
+#[inline(always)]
 pub fn spots(syllables: &[u8]) -> Walk<'_>
     ensures { spots_from result.before.last result.before.opened (words result.left.now) ≡ spots (words syllables.now) }
 {
@@ -34,6 +35,7 @@ impl Iterator for Walk<'_> {
 
     ghost remaining = { item_count spots_left };
 
+    #[inline(always)]
     fn next(&mut self) -> Option<Spot> {
         if self.left.len() < 4 {
             return None;

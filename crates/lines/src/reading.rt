@@ -21,7 +21,7 @@ pub struct Text {
     pub program: ArrayVec<u8, 16384>,
 }
 
-// Line 1, its bytes put into `table`: what stands behind it.
+// Line 1, its bytes put into `table`: what stands behind it. That the text is no longer is asked of what is lent, here and below.
 #[tactic(auto, using(crate::proofs::Tables::table_steps))]
 fn first_line<'a>(text: &'a [u8], table: &mut ArrayVec<u8, 10923>) -> Option<&'a [u8]>
     requires empty { table.old.items ≡ [] }

@@ -56,7 +56,7 @@ fn put_register(image: &mut [u8], r: usize, c: Cell)
     image[at + 9] = c.landing;
 }
 
-// The state's image, over all that `image` held.
+// The state's image, over all that `image` held. Sized is asked, since behind a reference the type does not tell the arrays' lengths.
 pub fn write(image: &mut [u8], s: &State)
     requires image_len { length image.old ≡ 2888 }
     requires sized { Sized s.now }

@@ -77,6 +77,7 @@ impl State {
             }
         }
     }
+
     // Register r, in its place.
     pub fn put(&mut self, r: usize, c: Cell)
         requires { r < 288 }

@@ -43,6 +43,7 @@ pub struct Operation {
 
 #[derive(Clone, Copy)]
 pub struct Register {
+    // as it is written, and as the table's items name it
     pub letter: u8,
     pub cluster: u32,
     pub number: u32,

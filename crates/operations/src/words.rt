@@ -68,7 +68,7 @@ fn register(w: &[u8]) -> Option<Register>
     })
 }
 
-// The register at `at`, behind the place after it.
+// The register at `at`, behind the place after it. As cluster_at, but each is held to a definition of its own, Names and numbered_by.
 pub fn register_at(line: &[u8], at: usize) -> Option<(usize, Register)>
     requires { at ≤ length line.now }
     ensures { Names line.now at result }
@@ -92,6 +92,7 @@ pub fn row_of(table: &[u8], w: &[u8]) -> Option<usize>
     requires { table.now ≡ text }
     ensures { result ≡ row_of w.now }
 {
+    // by row: its number is the answer
     for row in 0..58 {
         let at = row * 16;
         let end = at + 16;

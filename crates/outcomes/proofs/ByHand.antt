@@ -51,7 +51,7 @@ use Rattle.machine.proofs.Arrays.{registers_of_length}
 use Rattle.machine.specs.declared.State.{State}
 use Rattle.ticks.specs.Ticks.{views, latest, ready_ticks}
 use Rattle.ticks.specs.declared.Registers.{Registers}
-use Rattle.gather.specs.Scratch.{Scratch}
+use Rattle.gather.specs.declared.Scratch.{Scratch}
 use Rattle.loader.specs.declared.Answer.{Answer}
 use Rattle.run.specs.Loop.{Returned}
 use Rattle.run.specs.declared.Left.{Left}

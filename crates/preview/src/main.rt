@@ -4,6 +4,7 @@
 use input::read_full;
 use std::io::{self, Write};
 
+// As the main of assemble: what they share is read_full; the size and what is called differ.
 fn main(rt: HostRuntime) -> io::Result<()> {
     // one byte more than a text may have: of a longer one no more can matter
     let mut input = [0u8; 32769];

@@ -1,9 +1,9 @@
 -- A walk over instructions finds the lowest that breaks a test.
-use mathlib.Core.Path.{◌≡◌, ap}
+use mathlib.Core.Path.{◌≡◌, ap, ◌∙◌}
 use mathlib.Core.Logic.{⊎_elim}
 use mathlib.Core.Bool.{Bool, true, false, ◌&&◌}
 use mathlib.Core.List.{List}
-use Prim.Native.Nat.{ℕ, ◌+◌, ◌/◌, ◌≤◌, ◌<◌}
+use Prim.Native.Nat.{ℕ, ◌/◌, ◌≤◌, ◌<◌}
 use native.Mathlib.Nat.{eq-or-lt_of_le}
 use native.Mathlib.Omega.{arith}
 use lib.ListN.{length}
@@ -18,13 +18,12 @@ use Rattle.word.proofs.Choice.{by_test}
 use Rattle.isa.specs.Control.{place}
 use Rattle.isa.specs.Lowest.{lowest}
 use Rattle.isa.specs.Program.{spots, is_start, instruction_at, following}
+use Rattle.isa.specs.Cuts.{program_of, next_at, Gives}
+use Rattle.isa.specs.declared.Place.{Place}
 use Rattle.isa.specs.declared.Spot.{Spot}
-use Rattle.isa.proofs.Instructions.{spots_length, start_zero, between, following_after, following_within, next_start}
+use Rattle.isa.specs.declared.cuts.Cuts.{Cuts}
+use Rattle.isa.proofs.Instructions.{start_zero, start_inside, between, next_start}
 use Rattle.isa.proofs.Lowest.{lowest_only}
-
--- an instruction's stretch is as long as the instruction
-pub after : (p : List ℕ) (at : ℕ) (l : List ℕ) → spots (words l) ≡ instruction_at p at → at + length l / 4 ≡ following p at
-after p at l e = omega (arith, words_length l, spots_length (words l), ap (λ (xs : List Spot). length xs) e)
 
 module _ (f : List Spot → Bool) (l : List ℕ) where
   abbrev p : List ℕ
@@ -42,28 +41,42 @@ module _ (f : List Spot → Bool) (l : List ℕ) where
   pub reached_first : Reached 0
   reached_first = record { start = λ b. start_zero p (rw words_length b); none = below_none (λ i. broken i ≡ false) }
 
-  pub reached_end : (i : ℕ) → Reached i → length l / 4 ≤ i → None ≡ lowest broken (length p)
-  reached_end i r b = lowest_only broken (length p) (λ k h. r.none k (omega (arith, words_length l)))
+  -- the loop over the instructions ended
+  pub reached_end : (s : Cuts) → program_of s ≡ l → Reached (next_at s) → length (words (program_of s)) ≤ next_at s → None ≡ lowest broken (length p)
+  reached_end s e r b = lowest_only broken (length p) (λ k h. r.none k (omega (arith, ap (λ (m : List ℕ). length (words m)) e)))
 
-  -- a turn of the walk: t is the test of the instruction at i, n the place after it
-  module _ (i : ℕ) (r : Reached i) (b : i < length l / 4) {t : Bool} (q : t ≡ f (instruction_at p i)) where
+  -- the instruction at i: b is its test
+  module _ (i : ℕ) (r : Reached i) (s : is_start p i ≡ true) {b : Bool} (q : b ≡ f (instruction_at p i)) where
     within : i < length p
-    within = rw words_length b
+    within = start_inside p i s
 
-    pub found : t ≡ true → Some (place i) ≡ lowest broken (length p)
-    found h = lowest_only broken (length p) (within, rw (r.start b, ← q) h, r.none)
+    found_at : b ≡ true → Some (place i) ≡ lowest broken (length p)
+    found_at h = lowest_only broken (length p) (within, rw (s, ← q) h, r.none)
 
-    module _ {n : ℕ} (h : t ≡ false) (e : n ≡ following p i) where
-      pub on : (i < n) × (n ≤ length l / 4)
-      on = rw e (following_after p i within, omega (arith, words_length l, following_within p i within))
+    -- its other syllables start nothing
+    none_next : b ≡ false → NoneBelow broken (following p i)
+    none_next h k g =
+        ⊎_elim
+        (λ a. r.none k (ltb-true k i a))
+        (λ a. ⊎_elim (λ (e : i ≡ k). rw (← e, s, ← q) h) (λ d. rw (between p i k within d g)) (eq-or-lt_of_le (ltb-false k i a)))
+        (by_test (ltb k i))
 
-      -- the instruction's other syllables start nothing
-      none_next : NoneBelow broken (following p i)
-      none_next k g =
-          ⊎_elim
-          (λ a. r.none k (ltb-true k i a))
-          (λ a. ⊎_elim (λ (s : i ≡ k). rw (← s, r.start b, ← q) h) (λ d. rw (between p i k within d g)) (eq-or-lt_of_le (ltb-false k i a)))
-          (by_test (ltb k i))
+    next_at_lem : b ≡ false → Reached (following p i)
+    next_at_lem h = record { start = λ g. next_start p i within (rw words_length g); none = none_next h }
 
-      pub next : Reached n
-      next = rw e (record { start = λ g. next_start p i within (rw words_length g); none = none_next })
+  -- a turn of the loop
+  module _ {s t : Cuts} {at : Place} {stretch : List ℕ} (e : program_of s ≡ l) (r : Reached (next_at s)) (g : Gives s at stretch t) {b : Bool} (q : b ≡ f (spots (words stretch))) where
+    here : Reached at.0
+    here = rw g.place r
+
+    starts : is_start p at.0 ≡ true
+    starts = rw e at g.start
+
+    told : b ≡ f (instruction_at p at.0)
+    told = q ∙ ap f (rw e at g.syllables)
+
+    pub found : b ≡ true → Some at ≡ lowest broken (length p)
+    found = found_at at.0 here starts told
+
+    pub next : b ≡ false → Reached (next_at t)
+    next h = rw (rw e at g.next) (next_at_lem at.0 here starts told h)

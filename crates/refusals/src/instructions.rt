@@ -10,8 +10,9 @@ ghost use Rattle.isa.specs.declared.Spot.{Spot};
 ghost use Rattle.refusals.specs.Broken.{overfull, too_wide, too_wide_at, two_writes_at};
 
 use isa::control::is_control;
+use isa::cuts::instructions;
 use isa::decode::destinations;
-use isa::stretch::{cluster, cut};
+use isa::stretch::cluster;
 use isa::syllable::{is_alu, is_copy, is_mem, is_mul, opcode, source};
 use isa::walk::spots;
 use isa::{Place, Spot, Table};
@@ -95,13 +96,10 @@ pub fn too_wide(table: Table, program: &[u8]) -> Option<Place>
     requires { table.clusters ≤ 4 }
     ensures { result ≡ lowest (too_wide_at table (words program.now)) (length (words program.now)) }
 {
-    let mut at = Place(0);
-    while at.0 < program.len() / 4 {
-        let stretch = cut(program, at);
+    for (at, stretch) in instructions(program) {
         if is_too_wide(table, stretch) {
             return Some(at);
         }
-        at = Place(at.0 + stretch.len() / 4);
     }
     None
 }
@@ -143,13 +141,10 @@ pub fn two_writes(program: &[u8]) -> Option<Place>
     ensures { result ≡ lowest (two_writes_at (words program.now)) (length (words program.now)) }
 {
     let mut stamps = [0; 288];
-    let mut at = Place(0);
-    while at.0 < program.len() / 4 {
-        let stretch = cut(program, at);
+    for (at, stretch) in instructions(program) {
         if has_two_writes(stretch, at.0 + 1, &mut stamps) {
             return Some(at);
         }
-        at = Place(at.0 + stretch.len() / 4);
     }
     None
 }

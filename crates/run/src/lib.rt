@@ -58,6 +58,7 @@ fn run_all(
 {
     let mut scratch = Scratch::new();
     let mut at = start;
+    // by number: it is the tick
     for done in 0..n.0 {
         match given.step(Count(done), at, memory, registers, &mut scratch) {
             Ok(next) => at = next,

@@ -52,7 +52,8 @@ pub fn vex_check(table: &[u8], program: &[u8], room: &mut [u8]) -> u32
     answer.number
 }
 
-// Runs at most n instructions of a program, from the state that the image holds: the answer in the room, and its number returned.
+// Runs at most n instructions of a program, from the state that the image holds: the answer in the room, and its number returned. Its
+// parameters are what the C interface hands over (include/vex.h).
 pub fn vex_run(
     table: &[u8],
     program: &[u8],

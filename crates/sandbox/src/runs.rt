@@ -71,7 +71,7 @@ fn ran(
     })
 }
 
-// A call of run, all but its answer.
+// A call of run, all but its answer, of what the C interface hands over.
 pub fn call(
     table: &[u8],
     program: &[u8],

@@ -3,21 +3,21 @@ use mathlib.Core.Path.{◌≡◌, refl, sym, ap, ◌∙◌}
 use mathlib.Core.Logic.{◌⊎◌, inl, inr, ⊎_elim}
 use mathlib.Core.Bool.{Bool, true, false}
 use mathlib.Core.List.Memᴰ
-use mathlib.Core.List.{List, [], ◌∷◌, ◌++◌, map, append-nil, append_assoc, Memᴰ}
-use Prim.Native.Nat.{ℕ, suc, ◌+◌, ◌≤◌, ◌<◌}
-use native.Mathlib.Nat.{eq-or-lt_of_le}
+use mathlib.Core.List.{List, [], ◌∷◌, ◌++◌, map, append_assoc, Memᴰ}
+use Prim.Native.Nat.{ℕ, ◌+◌, ◌≤◌, ◌<◌, zero-le}
+use native.Mathlib.Nat.{eq-or-lt_of_le, not-suc-le-zero}
 use native.Mathlib.Omega.{arith}
 use lib.Dec.{eqb}
-use lib.ListN.{length, get_or, take, length-append, get_or-append}
-use lib.Seq.{take-suc, get_or-append_seam}
+use lib.ListN.{length, length-append, get_or-append}
+use lib.Seq.{get_or-append_seam}
 use borrow.Author.Tests.{eqb-false, ne_eqb}
 use Rattle.word.specs.Choice.{pick}
 use Rattle.vliw.specs.Machine.{Dest}
-use Rattle.isa.specs.Program.{nowhere, spot_at, operation}
+use Rattle.isa.specs.Program.{operation}
 use Rattle.isa.specs.Touch.{Result, delay_of, result_in, results, dests}
 use Rattle.isa.specs.declared.Delays.{Delays}
 use Rattle.isa.specs.declared.Op.{Op}
-use Rattle.isa.proofs.Ways.{operations, operations_size, operations_at_lem}
+use Rattle.isa.specs.declared.Spot.{Spot}
 use Rattle.schedule.specs.Late.{dest, late_at, LateOf, made}
 use Rattle.schedule.specs.declared.late.Late.{Late}
 
@@ -38,6 +38,17 @@ passed_over {es} register delay h n =
         → Memᴰ e (pick b [] (record { reg = register; delay = delay } ∷ [])) → 1 < e.delay → ⊥
     never true q m l = Memᴰ.not-nil m
     never false q m l = ⊎_elim (eqb-false register 0 q) (λ s. omega (arith, ap (λ (d : Dest). d.delay) (Memᴰ.eq_of_singleton m))) n
+
+pub none_kept : LateOf [] []
+none_kept =
+    record {
+      few = zero-le;
+      some = λ i b. absurd (not-suc-le-zero b);
+      below = λ i b. absurd (not-suc-le-zero b);
+      sound = λ i b. absurd (not-suc-le-zero b);
+      complete = λ m l. absurd (Memᴰ.not-nil m);
+      most = λ i b. absurd (not-suc-le-zero b);
+    }
 
 module _ {es : List Dest} {late : List Late} (register delay : ℕ) (h : LateOf es late)
     (some : register ≡ 0 → ⊥) (within : register < 288) (low : delay ≤ 8) (room : length late < 64) where
@@ -110,14 +121,9 @@ module _ (d : Delays) where
   dests_cons : (o : Op) (os : List Op) → dests d (o ∷ os) ≡ made_by o ++ dests d os
   dests_cons o os = rw (dests_in_lem o.t o.opcode _, dests_in_lem o.carry o.opcode (results os), append_assoc)
 
-  dests_append : (os more : List Op) → dests d (os ++ more) ≡ dests d os ++ dests d more
-  dests_append [] more = refl
-  dests_append (o ∷ os) more = rw (dests_cons o (os ++ more), dests_cons o os, dests_append os more, append_assoc (made_by o))
-
-  pub dests_more : (w : List ℕ) (i : ℕ) → i < length w → {o : Op} → o ≡ operation (spot_at w i)
-      → dests d (take (suc i) (operations w))
-      ≡ (dests d (take i (operations w)) ++ made o.t (delay_of d o.opcode o.t)) ++ made o.carry (delay_of d o.opcode o.carry)
-  dests_more w i h {o} e =
-      let os = operations w in
-      let at : get_or os i (operation nowhere) ≡ o = operations_at_lem w i ∙ sym e in
-      rw (take-suc os i (operation nowhere) (rw operations_size h), at, dests_append (take i os), dests_cons o [], append-nil (made_by o), append_assoc)
+  -- those of the operation of a spot, before those of the spots after it
+  pub dests_on : (es : List Dest) (x : Spot) (xs : List Spot) {o : Op} → o ≡ operation x
+      → ((es ++ made o.t (delay_of d o.opcode o.t)) ++ made o.carry (delay_of d o.opcode o.carry)) ++ dests d (map operation xs)
+      ≡ es ++ dests d (map operation (x ∷ xs))
+  dests_on es x xs {o} q =
+      rw (← q, dests_cons o (map operation xs), append_assoc (es ++ made o.t (delay_of d o.opcode o.t)), append_assoc es, append_assoc (made o.t (delay_of d o.opcode o.t)))

@@ -1,7 +1,7 @@
 -- Laws of stamps: how they grow, and what they say of the instruction that left them last.
 use mathlib.Core.Path.{◌≡◌, refl, sym, ◌∙◌}
 use mathlib.Core.Bool.{Bool, true, false, ◌||◌}
-use mathlib.Core.List.{List, ◌++◌}
+use mathlib.Core.List.{List, ◌∷◌, ◌++◌, map}
 use Prim.Native.Nat.{ℕ, zero, suc}
 use native.Mathlib.Omega.{arith}
 use lib.Dec.{eqb}
@@ -10,8 +10,10 @@ use borrow.Author.Tests.{eq-eqb, ne_eqb}
 use Rattle.word.specs.Choice.{pick}
 use Rattle.word.specs.Lists.{any, member}
 use Rattle.word.proofs.Choice.{never_both}
-use Rattle.isa.specs.Program.{operations_at}
+use Rattle.isa.specs.Program.{operation, operations_at}
 use Rattle.isa.specs.Touch.{reads, destinations}
+use Rattle.isa.specs.declared.Op.{Op}
+use Rattle.isa.specs.declared.Spot.{Spot}
 use Rattle.schedule.specs.Stamps.{names, Stamped}
 use Rattle.schedule.proofs.Naming.{touched}
 
@@ -21,10 +23,10 @@ pick_or true false n m = refl
 pick_or false true n m = refl
 pick_or false false n m = refl
 
--- ---- more stamps
-
-pub stamped_more : {f g : ℕ → Bool} {n : ℕ} {old new newer : List ℕ} → Stamped f n old new → Stamped g n new newer → Stamped (λ r. f r || g r) n old newer
-stamped_more {f} {g} {n} {old} h k = record { size = k.size; each = λ r. rw (k.each r, h.each r) (pick_or (f r) (g r) n (get_or old r 0)) }
+-- the stamps of a spot's operation, before those of the spots after it
+pub stamped_on : (x : Spot) (xs : List Spot) {o : Op} {n : ℕ} {old new : List ℕ} → o ≡ operation x → Stamped (λ r. names r o) n old new
+    → (r : ℕ) → pick (any (names r) (map operation xs)) n (get_or new r 0) ≡ pick (any (names r) (map operation (x ∷ xs))) n (get_or old r 0)
+stamped_on x xs {o} {n} {old} q h r = rw (h.each r, ← q) (pick_or (names r o) (any (names r) (map operation xs)) n (get_or old r 0))
 
 -- ---- what a stamp says
 

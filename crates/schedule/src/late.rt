@@ -9,9 +9,10 @@ ghost use Rattle.schedule.specs.Decodable.{Decodable};
 ghost use Rattle.schedule.specs.Late.{LateOf, made};
 
 use arrayvec::ArrayVec;
-use isa::stretch::{before_all, next_spot, operation, syllable};
+use isa::Delays;
+use isa::stretch::operation;
 use isa::touch::delay;
-use isa::{Delays, Slot};
+use isa::walk::spots;
 
 // A result in a register, and its delay.
 #[derive(Clone, Copy, Default)]
@@ -46,9 +47,7 @@ pub fn late_results(d: Delays, stretch: &[u8], late: &mut ArrayVec<Late, 64>)
     ensures { LateOf (dests d (map operation (spots (words stretch.now)))) late.new.items }
 {
     late.clear();
-    let mut x = before_all();
-    for i in 0..stretch.len() / 4 {
-        x = next_spot(x, syllable(stretch, Slot(i)));
+    for x in spots(stretch) {
         let o = operation(x);
         keep(d, o.opcode, o.t, late);
         keep(d, o.opcode, o.carry, late);

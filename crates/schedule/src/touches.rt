@@ -8,8 +8,9 @@ ghost use Rattle.schedule.specs.Decodable.{Decodable};
 ghost use Rattle.schedule.specs.Stamps.{names, Registers, Stamped};
 
 use isa::control::reads_every;
-use isa::stretch::{before_all, next_spot, operation, syllable};
-use isa::{Op, Place, Slot, Way};
+use isa::stretch::operation;
+use isa::walk::spots;
+use isa::{Op, Place, Way};
 
 // Call and return read every register.
 fn stamp_every(w: Way, n: usize, stamps: &mut [usize; 288])
@@ -40,9 +41,7 @@ pub fn stamp_touched(stretch: &[u8], at: Place, stamps: &mut [usize; 288])
     ensures { Stamped (λ r. any (names r) (map operation (spots (words stretch.now)))) (suc at.0) stamps.old stamps.new }
 {
     let n = at.0 + 1;
-    let mut x = before_all();
-    for i in 0..stretch.len() / 4 {
-        x = next_spot(x, syllable(stretch, Slot(i)));
+    for x in spots(stretch) {
         stamp(operation(x), n, stamps);
     }
 }

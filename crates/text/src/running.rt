@@ -17,7 +17,7 @@ use loader::{Answer, Refusal, bad_program_length, load_with};
 use sandbox::vex_run;
 use word::number::word_at;
 
-// Line 1 alone.
+// Line 1 alone: at this size what assembly has as `refused`; what they share is put_answer.
 fn answered(a: Answer) -> Shown
     ensures is { result.items ≡ answer_row a }
     ensures len { array_vec_len result ≡ 21 }

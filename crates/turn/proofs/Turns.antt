@@ -32,6 +32,8 @@ use Rattle.isa.specs.declared.Count.{Count}
 use Rattle.isa.specs.declared.Place.{Place}
 use Rattle.isa.proofs.Instructions.{spots_length, start_inside, following_within}
 use Rattle.isa.proofs.Results.{dests_have}
+use Rattle.std.specs.Ordering.{is_lt, nat_cmp}
+use Rattle.std.proofs.lemmas.Map.Keys.{ge_from_not_lt}
 use Rattle.std.specs.Prelude.{Option, None, Some, Result, Ok, Err, ⊤}
 use Rattle.memory.specs.Memory.{store, any_share}
 use Rattle.memory.specs.declared.Store.{Store}
@@ -45,7 +47,7 @@ use Rattle.ticks.specs.declared.Register.{Register}
 use Rattle.ticks.proofs.Views.{views_aged, view_busy, view_late}
 use Rattle.ticks.proofs.Results.{bytes_left_lem}
 use Rattle.gather.specs.Gather.{op_busy, next_from, turn_in, Flying, named_late, op_late, fire_at, Lists, fired, Came, Gathered}
-use Rattle.gather.specs.Scratch.{Scratch}
+use Rattle.gather.specs.declared.Scratch.{Scratch}
 use Rattle.gather.specs.declared.Seen.{Seen}
 use Rattle.gather.specs.declared.Course.{Course}
 use Rattle.gather.specs.declared.Course.TheVariants.{Open, Stop, Set, Call, Back}
@@ -69,12 +71,13 @@ module _ {d : Delays} {m : List ℕ} {s : Seen} {a : Scratch} where
   gathered w j here e f k = gathered_views here.bank here.idle (rw (e, f) at k)
 
 -- from tick `free` on no register is in flight, and register 0 never is
-pub flying_before : {t : ℕ} {p : List ℕ} {point : Point} {rs : List Register} → Running t p point rs → Flying (ltb t point.free.0) t rs
-flying_before {t} {point = point} {rs} here =
+pub flying_before : {t : ℕ} {p : List ℕ} {point : Point} {rs : List Register} {flying : Bool} → Running t p point rs
+    → flying ≡ is_lt (nat_cmp t point.free.0) → Flying flying t rs
+flying_before {t} {point = point} {rs} here q =
     record {
       nothing = omega (arith, here.idle, view_busy t rs 0);
       others = λ e r.
-          ⊎_elim (λ h. let b = ltb-true t (register_at rs r).ready h in absurd (omega (arith, here.freed r b, ltb-false t point.free.0 e)))
+          ⊎_elim (λ h. let b = ltb-true t (register_at rs r).ready h in absurd (omega (arith, here.freed r b, ge_from_not_lt t point.free.0 (sym q ∙ e))))
           (λ h. ltb-false t (register_at rs r).ready h) (by_test (ltb t (register_at rs r).ready));
     }
 
@@ -354,6 +357,7 @@ module _ {d : Delays} {p : List ℕ} {t : ℕ} {point : Point} {rs : List Regist
         let left : bytes_left (dests d (operations_at p i)) (result_values m es) (drop used landing) ≡ drop (used + length a.results) landing = rw (← ks.dests, ← ks.values) (bytes_left_lem a.results landing used) in
         let (linked, low) = linked_after free in
         record {
+          onward = omega arith;
           few = omega (arith, k.holds.results.few);
           running =
               record {

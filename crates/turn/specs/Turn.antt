@@ -129,8 +129,9 @@ pub record Running (t : ℕ) (program : List ℕ) (at : Point) (rs : List Regist
 abbrev pub beside : List ℕ → Link → Memory
 beside bytes link = memory_of bytes link.place.0
 
--- one turn at tick t, from s: it went on, with at most 64 landing bytes taken
+-- one turn at tick t, from s: it went on, and took at most 64 landing bytes
 pub record Moved (d : Delays) (program landing : List ℕ) (t : ℕ) (at : Point) (s : Situation Memory Change) (to : Point) (rs : List Register) (m : List ℕ) : Type 0 where
+  pub onward : at.used ≤ to.used
   pub few : to.used ≤ at.used + 64
   pub running : Running (t + 1) program to rs
   pub is : step change (instruction_of d program) s ≡ next (situation_at to.place.0 (views (t + 1) rs) (beside m to.link) landing to.used)

@@ -14,7 +14,8 @@ use memory::{Store, shared, store_all};
 use ticks::Registers;
 use vliw::{Ending, Fault};
 
-// The link, and whether an instruction starts there: asked when a call of run begins, and true after a call, so that no return asks again.
+// The link, and whether an instruction starts there: asked when a call of run begins, and true after a call, so that no return asks again. The
+// place is the state's, and is kept also where none starts there.
 #[derive(Clone, Copy)]
 pub struct Link {
     pub place: Place,
@@ -133,7 +134,7 @@ impl Given<'_> {
             memory,
             delays: self.delays,
             t,
-            flying: t.0 < at.free.0,
+            flying: t < at.free,
             end,
         };
         let s = before.collect(stretch, scratch);

@@ -25,7 +25,7 @@ pub fn word_at(l: &[u8], at: usize) -> u32
     u32::from_be_bytes([l[at], l[at + 1], l[at + 2], l[at + 3]])
 }
 
-// The low byte of `v`.
+// The low byte of `v`. A place in bytes is what these three are for.
 pub fn put_byte(l: &mut [u8], at: usize, v: u32)
     requires { at < length l.old }
     ensures { l.new ≡ put_number 1 at v l.old }

@@ -13,7 +13,7 @@ use Rattle.gather.proofs.Before.collect.Goals as goal
 use Rattle.gather.proofs.Before.collect.Goals.{After-opened-clusters, In-loop-j}
 
 pub loop-j-init : goal.loop-j-init
-loop-j-init c = record { clusters = refl; gathered = gathered_none c.clear.ensures.0 c.clear.ensures.1 }
+loop-j-init c = record { clusters = refl; gathered = gathered_none c.clear.ensures c.clear-2.ensures }
 
 inside : (c : In-loop-j) → c.loop-j.j < length (words c.args.stretch.now)
 inside c = rw words_length c.loop-j-test.true

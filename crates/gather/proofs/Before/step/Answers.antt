@@ -44,5 +44,5 @@ pub returns-in-0 : goal.returns-in-0
 returns-in-0 c =
     let e = c.still.ensures c.args.c in
     let z = sym c.opcode.ensures ∙ c.in-0.is in
-    rw (← e) (goes_ahead (still_late c.requires.flying c.still.result c.args.c _ z e)
+    rw (← e) (goes_ahead (still_late c.args.self.now.idle c.still.result c.args.c _ z e)
     (turns c.requires.holds (formed_as 0 _ (omega arith) (c.still.ensures 0)) (control_first _ (code_as 0 _ (omega arith) (c.still.ensures 0) ∙ z)) c.decide.ensures.same.0 c.decide.ensures.same.1 c.decide.ensures.next))

@@ -21,8 +21,8 @@ overflow_add-end c =
     let i = c.args.at.place.0 in
     omega (arith, end_follows c.cut-stretch.result.now p i c.cut-stretch.ensures, following_within p i (inside (goal.at.overflow_add-end c).Start), words_length c.args.self.now.program.now)
 
-pub collect-s-requires-clause-flying : goal.collect-s-requires-clause-flying
-collect-s-requires-clause-flying c = flying_before c.requires.running
+pub invariant_of-before-clause-idle : goal.invariant_of-before-clause-idle
+invariant_of-before-clause-idle c = flying_before c.requires.running c.lt.ensures
 
 -- with the place after the instruction
 pub returns-in_err-against : goal.returns-in_err-against
