@@ -21,7 +21,7 @@ pub fn following(program: &[u8], at: Place) -> Place
     let n = program.len() / 4;
     for i in at.0..n {
         // The end bit is the highest of a syllable's first byte.
-        if 0x80 <= program[i * 4] {
+        if program[i * 4] >> 7 != 0 {
             return Place(i + 1);
         }
     }

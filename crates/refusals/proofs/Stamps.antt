@@ -115,6 +115,15 @@ module _ (n : ℕ) where
       let carry : o.carry ≡ d.carry = sym (ap (λ (n : Destinations). n.carry) same) in
       (last, λ os. rw (destinations_one o os, t, carry, first (into d.carry (destinations os)), second (destinations os)) (simp or_assoc))
 
+  -- the first of them was stamped before: whatever else is done
+  pub stamped_first : (m : List ℕ) (o : Op) (d : Destinations) {b : Bool} {j : List ℕ} → d ≡ record { t = o.t; carry = o.carry }
+      → (d.t < 288) × (d.carry < 288) → Sized m → Stamped m d.t b j → b ≡ true
+      → Sized j × ((os : List Op) → clashes m (destinations (o ∷ os)) ≡ true)
+  stamped_first m o d same (x, y) h e told =
+      let (still, first) = stamped m d.t x h e in
+      let t : o.t ≡ d.t = sym (ap (λ (n : Destinations). n.t) same) in
+      (still, λ os. rw (destinations_one o os, t, first (into o.carry (destinations os)), told))
+
 -- `decode` names registers below 288
 pub registers_in_lem : (x : Spot) (d : Destinations) → x.opened ≤ 4 → d ≡ record { t = (operation x).t; carry = (operation x).carry }
     → (d.t < 288) × (d.carry < 288)

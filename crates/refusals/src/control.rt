@@ -84,9 +84,10 @@ pub fn bad_control(program: &[u8]) -> Option<Place>
     let last = last_start(program);
     let mut x = before_all();
     for i in 0..program.len() / 4 {
-        x = next_spot(x, isa::program::syllable(program, Place(i)));
-        if is_bad_control(program, Place(i), x, last) {
-            return Some(Place(i));
+        let at = Place(i);
+        x = next_spot(x, isa::program::syllable(program, at));
+        if is_bad_control(program, at, x, last) {
+            return Some(at);
         }
     }
     None

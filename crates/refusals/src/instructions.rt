@@ -82,11 +82,15 @@ fn is_too_wide(table: Table, stretch: &[u8]) -> bool
     let mut left = table;
     let mut controlled = false;
     for x in spots(stretch) {
-        let control = is_control(x.syllable);
-        if overfills(&mut left, x) | (controlled & control) {
+        if overfills(&mut left, x) {
             return true;
         }
-        controlled |= control;
+        if is_control(x.syllable) {
+            if controlled {
+                return true;
+            }
+            controlled = true;
+        }
     }
     false
 }
@@ -128,7 +132,10 @@ fn has_two_writes(stretch: &[u8], n: usize, stamps: &mut [usize; 288]) -> bool
 {
     for x in spots(stretch) {
         let d = destinations(cluster(x) as u32, x.syllable);
-        if stamp(stamps, d.t, n) | stamp(stamps, d.carry, n) {
+        if stamp(stamps, d.t, n) {
+            return true;
+        }
+        if stamp(stamps, d.carry, n) {
             return true;
         }
     }

@@ -58,14 +58,15 @@ fn run_all(
 {
     let mut scratch = Scratch::new();
     let mut at = start;
-    // by number: it is the tick
-    for done in 0..n.0 {
-        match given.step(Count(done), at, memory, registers, &mut scratch) {
+    for i in 0..n.0 {
+        // the tick, too
+        let done = Count(i);
+        match given.step(done, at, memory, registers, &mut scratch) {
             Ok(next) => at = next,
             Err(ending) => {
                 return Ended {
                     ending,
-                    count: Count(done),
+                    count: done,
                     at,
                 };
             }

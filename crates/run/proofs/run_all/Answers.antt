@@ -3,20 +3,20 @@ use native.Mathlib.Omega.{arith}
 use Rattle.run.proofs.Endings.{loop_begun, loop_on, loop_off, loop_done}
 use Rattle.run.proofs.run_all.Goals as goal
 
-pub loop-done-init : goal.loop-done-init
-loop-done-init c = loop_begun c.requires.running c.requires.none
+pub loop-i-init : goal.loop-i-init
+loop-i-init c = loop_begun c.requires.running c.requires.none
 
 pub step-requires-clause-running : goal.step-requires-clause-running
-step-requires-clause-running c = c.loop-done.invariant.running
+step-requires-clause-running c = c.loop-i.invariant.running
 
 pub step-requires-clause-t_bound : goal.step-requires-clause-t_bound
-step-requires-clause-t_bound c = (omega (arith, c.loop-done-test.true, c.requires.n_bound), c.loop-done.invariant.used)
+step-requires-clause-t_bound c = (omega (arith, c.loop-i-test.true, c.requires.n_bound), c.loop-i.invariant.used)
 
 pub returns-in-Err : goal.returns-in-Err
-returns-in-Err c = loop_off c.loop-done.invariant c.loop-done-test.true c.in-Err.ensures
+returns-in-Err c = loop_off c.loop-i.invariant c.loop-i-test.true c.in-Err.ensures
 
-pub loop-done-preserved : goal.loop-done-preserved
-loop-done-preserved c = loop_on c.loop-done.invariant c.loop-done-test.true c.in-Ok.ensures
+pub loop-i-preserved : goal.loop-i-preserved
+loop-i-preserved c = loop_on c.loop-i.invariant c.loop-i-test.true c.in-Ok.ensures
 
 pub returns : goal.returns
-returns c = loop_done c.loop-done.invariant c.loop-done.auto.done-end c.loop-done-test.false
+returns c = loop_done c.loop-i.invariant c.loop-i.auto.i-end c.loop-i-test.false

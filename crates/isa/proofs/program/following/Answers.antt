@@ -1,7 +1,7 @@
 -- The instruction from the loop's place ends where the one from `at` does.
 use mathlib.Core.Path.{◌≡◌, refl, sym, ◌∙◌}
 use mathlib.Core.List.{List}
-use Prim.Native.Nat.{ℕ, suc, ◌+◌, ◌*◌, ◌/◌, ◌^◌, ◌≤◌, ◌<◌}
+use Prim.Native.Nat.{ℕ, suc, ◌+◌, ◌*◌, ◌/◌, ◌^◌, ◌<◌}
 use native.Mathlib.Numerals.{add-one}
 use native.Mathlib.Omega.{arith}
 use lib.ListN.{length, get_or}
@@ -21,17 +21,17 @@ module _ (l : List ℕ) (b : AreBytes l) (i : ℕ) (h : i < length l / 4) where
   first_byte : get_or (words l) i 0 / 2 ^ 24 ≡ get_or l (i * 4) 0
   first_byte = omega (arith, words_at l i h, word_at_sum (i * 4) l (omega arith), b (i * 4 + 1), b (i * 4 + 2), b (i * 4 + 3))
 
-  on : get_or l (i * 4) 0 < 128 → following (words l) i ≡ following (words l) (suc i)
+  on : get_or l (i * 4) 0 / 2 ^ 7 ≡ 0 → following (words l) i ≡ following (words l) (suc i)
   on k = following_on (words l) i inside (ne_eqb (bits 31 31 (get_or (words l) i 0)) 1 (λ e. omega (arith, first_byte)))
 
-  here : 128 ≤ get_or l (i * 4) 0 → following (words l) i ≡ suc i
+  here : (get_or l (i * 4) 0 / 2 ^ 7 ≡ 0 → ⊥) → following (words l) i ≡ suc i
   here k = following_here (words l) i inside (eq-eqb (bits 31 31 (get_or (words l) i 0)) 1 (omega (arith, first_byte, b (i * 4))))
 
 pub loop-i-init : goal.loop-i-init
 loop-i-init c = (omega (arith, words_length c.args.program.now), refl)
 
-pub returns-then-program-i-ge128 : goal.returns-then-program-i-ge128
-returns-then-program-i-ge128 c =
+pub returns-then-program-i-ne0 : goal.returns-then-program-i-ne0
+returns-then-program-i-ne0 c =
     rw add-one (sym (here c.args.program.now (λ j. (c.type_inv.program j).fits) c.loop-i.i (omega arith) (omega arith)) ∙ c.loop-i.invariant.1)
 
 pub loop-i-preserved : goal.loop-i-preserved

@@ -12,7 +12,7 @@ use Rattle.isa.specs.Touch.{destinations}
 use Rattle.isa.specs.Walk.{spots_left}
 use Rattle.isa.specs.declared.Spot.{Spot}
 use Rattle.isa.proofs.Instructions.{spots_length}
-use Rattle.refusals.proofs.Stamps.{clashes, clashes_none, Sized, stamped_op, registers_in_lem}
+use Rattle.refusals.proofs.Stamps.{clashes, clashes_none, Sized, stamped_first, stamped_op, registers_in_lem}
 use Rattle.refusals.proofs.instructions.has_two_writes.Goals as goal
 use Rattle.refusals.proofs.instructions.has_two_writes.Goals.{After-cluster, After-destinations-d, After-stamp-in-loop-x}
 
@@ -45,13 +45,20 @@ tested c =
 
 pub returns-then-stamp : goal.returns-then-stamp
 returns-then-stamp c =
-    let (sized, e) = tested (goal.at.returns-then-stamp c).After-stamp-in-loop-x in
-    record { is = rw c.if-stamp.true at e; used = sized.1 }
+    let same : c.destinations-d.result ≡ record { t = (operation c.in-Some.x).t; carry = (operation c.in-Some.x).carry } = rw (c.destinations-d.ensures, c.cluster.ensures) in
+    let below = registers_in_lem c.in-Some.x c.destinations-d.result (first_few _ _ c.in-Some.x c.loop-x.invariant.0 c.in-Some.ensures.steps).0 same in
+    let (sized, clash) = stamped_first c.args.n c.loop-x.stamps (operation c.in-Some.x) c.destinations-d.result same below c.loop-x.invariant.1 (c.stamp.ensures.was, c.stamp.ensures.is) c.if-stamp.true in
+    record { is = sym (clash (map operation (spots_left c.next.new.self))) ∙ rw c.in-Some.ensures.steps at c.loop-x.invariant.2; used = sized.1 }
+
+pub returns-then-stamp-2 : goal.returns-then-stamp-2
+returns-then-stamp-2 c =
+    let (sized, e) = tested (goal.at.returns-then-stamp-2 c).After-stamp-in-loop-x in
+    record { is = rw (c.if-stamp.false, c.if-stamp-2.true) at e; used = sized.1 }
 
 pub loop-x-preserved : goal.loop-x-preserved
 loop-x-preserved c =
     let (sized, e) = tested (goal.at.loop-x-preserved c).After-stamp-in-loop-x in
-    ((first_few _ _ c.in-Some.x c.loop-x.invariant.0 c.in-Some.ensures.steps).1, sized, rw c.if-stamp.false at e)
+    ((first_few _ _ c.in-Some.x c.loop-x.invariant.0 c.in-Some.ensures.steps).1, sized, rw (c.if-stamp.false, c.if-stamp-2.false) at e)
 
 pub returns : goal.returns
 returns c = record { is = rw c.in-None.ensures.steps.0 at c.loop-x.invariant.2; used = c.loop-x.invariant.1.1 }

@@ -26,12 +26,12 @@ tested c control =
     sym (rest_on c.args.table.clusters c.loop-x.left c.overfills.new.left c.loop-x.controlled c.overfills.result c.in-Some.x xs (rw c.loop-x.invariant.1 at (c.overfills.ensures.is xs)) control)
     ∙ rw c.in-Some.ensures.steps at c.loop-x.invariant.0
 
-pub returns-then-overfills-controlled : goal.returns-then-overfills-controlled
-returns-then-overfills-controlled c = rw c.if-overfills-controlled.true at (tested (goal.at.returns-then-overfills-controlled c).After-overfills c.is_control-control.ensures)
+pub returns-then-overfills : goal.returns-then-overfills
+returns-then-overfills c = rw c.if-overfills.true at (tested (goal.at.returns-then-overfills c).After-overfills refl)
 
-pub loop-x-preserved : goal.loop-x-preserved
-loop-x-preserved c =
-    (rw c.if-overfills-controlled.false at (tested (goal.at.loop-x-preserved c).After-overfills c.is_control-control.ensures), c.overfills.ensures.clusters ∙ c.loop-x.invariant.1)
+pub returns-then-controlled : goal.returns-then-controlled
+returns-then-controlled c =
+    rw (c.if-overfills.false, c.if-controlled.true, c.if-is_control.true) at (tested (goal.at.returns-then-controlled c).After-overfills c.is_control.ensures)
 
 pub returns : goal.returns
 returns c =
