@@ -10,7 +10,6 @@ ghost use Rattle.isa.specs.declared.Spot.{Spot};
 ghost use Rattle.refusals.specs.Broken.{overfull, too_wide, too_wide_at, two_writes_at};
 
 use isa::control::is_control;
-use isa::cuts::instructions;
 use isa::decode::destinations;
 use isa::stretch::cluster;
 use isa::syllable::{is_alu, is_copy, is_mem, is_mul, opcode, source};
@@ -74,35 +73,55 @@ fn overfills(left: &mut Table, x: Spot) -> bool
     false
 }
 
-// 6, of an instruction's stretch.
-fn is_too_wide(table: Table, stretch: &[u8]) -> bool
-    requires { table.clusters ≤ 4 }
-    ensures { result ≡ too_wide table (spots (words stretch.now)) }
+// What is left is all of the table's counts. The delays are no part of it, and stay uncopied.
+fn refill(left: &mut Table, table: Table)
+    ensures { left.new ≡ record {
+      clusters = left.old.clusters;
+      width = table.width;
+      alu = table.alu;
+      mul = table.mul;
+      mem = table.mem;
+      copy = table.copy;
+      delays = left.old.delays;
+    } }
 {
-    let mut left = table;
-    let mut controlled = false;
-    for x in spots(stretch) {
-        if overfills(&mut left, x) {
-            return true;
-        }
-        if is_control(x.syllable) {
-            if controlled {
-                return true;
-            }
-            controlled = true;
-        }
-    }
-    false
+    let Table {
+        width,
+        alu,
+        mul,
+        mem,
+        copy,
+        ..
+    } = table;
+    left.width = width;
+    left.alu = alu;
+    left.mul = mul;
+    left.mem = mem;
+    left.copy = copy;
 }
 
-// 6: more in a cluster, or more control, than one instruction may have.
+// 6: more in a cluster, or more control, than one instruction may have. With each instruction that begins, the counts begin anew.
 pub fn too_wide(table: Table, program: &[u8]) -> Option<Place>
     requires { table.clusters ≤ 4 }
     ensures { result ≡ lowest (too_wide_at table (words program.now)) (length (words program.now)) }
 {
-    for (at, stretch) in instructions(program) {
-        if is_too_wide(table, stretch) {
+    let mut at = Place(0);
+    let mut left = table;
+    let mut controlled = false;
+    for (i, x) in spots(program).enumerate() {
+        if x.first {
+            at = Place(i);
+            refill(&mut left, table);
+            controlled = false;
+        }
+        if overfills(&mut left, x) {
             return Some(at);
+        }
+        if is_control(x.syllable) {
+            if controlled {
+                return Some(at);
+            }
+            controlled = true;
         }
     }
     None
@@ -122,34 +141,23 @@ fn stamp(stamps: &mut [usize; 288], r: u32, n: usize) -> bool
     was
 }
 
-// 7, of an instruction's stretch; none opens a fifth cluster. The stamp n is above all that were used before it, so that nothing has to be
-// cleared.
-fn has_two_writes(stretch: &[u8], n: usize, stamps: &mut [usize; 288]) -> bool
-    requires few { (j : ℕ) → j < length (words stretch.now) → (spot_at (words stretch.now) j).opened ≤ 4 }
-    requires unused { (r : ℕ) → get_or stamps.old r 0 < n }
-    ensures is { result ≡ repeats (destinations (map operation (spots (words stretch.now)))) }
-    ensures used { (r : ℕ) → get_or stamps.new r 0 ≤ n }
-{
-    for x in spots(stretch) {
-        let d = destinations(cluster(x) as u32, x.syllable);
-        if stamp(stamps, d.t, n) {
-            return true;
-        }
-        if stamp(stamps, d.carry, n) {
-            return true;
-        }
-    }
-    false
-}
-
-// 7: a register, not register 0, twice as destination.
+// 7: a register, not register 0, twice as destination; none opens a fifth cluster. An instruction's stamp is above all that were used before it,
+// so that nothing has to be cleared.
 pub fn two_writes(program: &[u8]) -> Option<Place>
     requires { (j : ℕ) → j < length (words program.now) → (spot_at (words program.now) j).opened ≤ 4 }
     ensures { result ≡ lowest (two_writes_at (words program.now)) (length (words program.now)) }
 {
     let mut stamps = [0; 288];
-    for (at, stretch) in instructions(program) {
-        if has_two_writes(stretch, at.0 + 1, &mut stamps) {
+    let mut at = Place(0);
+    for (i, x) in spots(program).enumerate() {
+        if x.first {
+            at = Place(i);
+        }
+        let d = destinations(cluster(x) as u32, x.syllable);
+        if stamp(&mut stamps, d.t, at.0 + 1) {
+            return Some(at);
+        }
+        if stamp(&mut stamps, d.carry, at.0 + 1) {
             return Some(at);
         }
     }
