@@ -1,37 +1,18 @@
 -- A name is looked for along the code's table.
 use mathlib.Core.Path.{◌≡◌, refl, sym, ap, ap₂, ◌∙◌}
-use mathlib.Core.Bool.{Bool, true, false, not, cond, ◌&&◌}
-use mathlib.Core.List.{List, [], ◌∷◌}
+use mathlib.Core.Bool.{Bool, true, false}
+use mathlib.Core.List.{List}
 use Prim.Native.Nat.{ℕ, suc, ◌+◌, ◌*◌, ◌-◌, ◌≤◌, ◌<◌}
 use native.Mathlib.Omega.{arith}
-use lib.Dec.{eqb}
-use lib.Pointwise.{pointwise}
 use lib.ListN.{length, take, drop, drop_of_length-le}
 use lib.Seq.{drop-cons}
 use Rattle.std.specs.Prelude.{Option, Some, None, option_map}
-use Rattle.std.specs.List.{prefix_len}
 use Rattle.word.specs.Choice.{pick}
 use Rattle.operations.specs.Table.{Row, table}
 use Rattle.operations.specs.Reader.{row_from, row_of}
 use Rattle.tokens.specs.Tokens.{same}
 use Rattle.operations.specs.Code.{text, row_text, until_blank}
 use Rattle.operations.proofs.Rows.{rows, names}
-
--- how much of a row its name is
-pub name_part : (row : List ℕ) → take (prefix_len (λ b. not (eqb b 32)) row) row ≡ until_blank row
-name_part [] = refl
-name_part (b ∷ row) = go (eqb b 32) (name_part row)
-  where
-    go : (x : Bool) → take (prefix_len (λ b. not (eqb b 32)) row) row ≡ until_blank row
-        → take (cond (not x) (1 + prefix_len (λ b. not (eqb b 32)) row) 0) (b ∷ row) ≡ pick x [] (b ∷ until_blank row)
-    go true h = refl
-    go false h = let n : 1 + prefix_len (λ b. not (eqb b 32)) row ≡ suc (prefix_len (λ b. not (eqb b 32)) row) = omega arith in rw n (ap (λ (s : List ℕ). b ∷ s) h)
-
-pub pointwise_same : (v w : List ℕ) → pointwise eqb v w ≡ same v w
-pointwise_same [] [] = refl
-pointwise_same [] (b ∷ w) = refl
-pointwise_same (a ∷ v) [] = refl
-pointwise_same (a ∷ v) (b ∷ w) = ap (λ x. eqb a b && x) (pointwise_same v w)
 
 -- the rows before a place are not it
 abbrev pub Passed : List ℕ → ℕ → Type 0

@@ -79,12 +79,20 @@ pub fn register_at(line: &[u8], at: usize) -> Option<(usize, Register)>
     Some((to, register(&line[from..to])?))
 }
 
-// Whether a row's name is w.
+// Whether a row's name is w, byte by byte: of most rows the first one tells.
 fn is_named(row: &[u8], w: &[u8]) -> bool
     ensures { result ≡ same (until_blank row.now) w.now }
 {
-    let n = row.iter().position(|b| *b == b' ').unwrap_or(row.len());
-    &row[..n] == w
+    let [a, behind @ ..] = row else {
+        return w.is_empty();
+    };
+    if *a == b' ' {
+        return w.is_empty();
+    }
+    let [b, rest @ ..] = w else {
+        return false;
+    };
+    a == b && is_named(behind, rest)
 }
 
 // The row of a name in the code's table.
