@@ -129,15 +129,15 @@ fn item_at(line: &[u8], at: usize, front: Front, k: u8) -> Option<Step>
     }
 }
 
-// An item's bits and expression after what was gathered; the first expression counts.
-fn joined(o: Operation, s: Step) -> Operation
-    requires { o.bits + s.adds < 2 ^ 32 }
-    ensures { result ≡ joined_by o s }
+// An item's bits and expression after what was gathered; the first expression counts. In its place, and only where there is one: a copy of the
+// whole for each item made assemble a quarter slower.
+fn join(o: &mut Operation, s: Step)
+    requires { o.old.bits + s.adds < 2 ^ 32 }
+    ensures { o.new ≡ joined_by o.old s }
 {
-    Operation {
-        bits: o.bits + s.adds,
-        asks: o.asks.or(s.asks),
-        ..o
+    o.bits += s.adds;
+    if o.asks.is_none() && s.asks.is_some() {
+        o.asks = s.asks;
     }
 }
 
@@ -165,7 +165,7 @@ pub fn operands(
             return Some((p, o));
         }
         let s = item_at(line, p, front, *k)?;
-        o = joined(o, s);
+        join(&mut o, s);
         p = s.to;
     }
     Some((p, o))
