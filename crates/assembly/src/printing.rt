@@ -10,7 +10,7 @@ use arrayvec::ArrayVec;
 use isa::syllable::ends;
 use loader::Answer;
 use sandbox::vex_assemble;
-use text::rows::{put_answer, put_field};
+use text::rows::{push_answer, push_field};
 use word::number::word_at;
 
 // What stands behind a syllable.
@@ -28,18 +28,18 @@ fn syllables(program: &[u8; 16384], count: usize) -> Printed
     let mut out = ArrayVec::new();
     for syllable in program.chunks_exact(4).take(count) {
         let s = word_at(syllable, 0);
-        put_field(&mut out, 8, s as u64, behind(s));
+        push_field(&mut out, 8, s as u64, behind(s));
     }
     out
 }
 
-// The one line of a refusal: at this size what text has as `answered`; what they share is put_answer.
+// The one line of a refusal: at this size what text has as `answered`; what they share is push_answer.
 fn refused(a: Answer) -> Printed
     ensures is { result.items ≡ answer_row a }
     ensures fits { array_vec_len result ≤ 36864 }
 {
     let mut out = ArrayVec::new();
-    put_answer(&mut out, a);
+    push_answer(&mut out, a);
     out
 }
 

@@ -204,17 +204,17 @@ sandbox_vex_check_one table program room a b p q =
     λ i. record { result = (e i).result; room = (e i).room }
 
 -- a vector is its elements
-pub text_put_field_one : (N : ℕ) (out : ArrayVec ℕ) (digits v after : ℕ)
+pub text_push_field_one : (N : ℕ) (out : ArrayVec ℕ) (digits v after : ℕ)
     → OneOutcome (λ (o : ArrayVec ℕ). (o.items ≡ out.items ++ field digits v after) × (array_vec_len o ≡ array_vec_len out + digits + 1))
-text_put_field_one N out digits v after a b p q = λ i. record { items = (p.0 ∙ sym q.0) i }
+text_push_field_one N out digits v after a b p q = λ i. record { items = (p.0 ∙ sym q.0) i }
 
-pub text_put_fields_one : (N : ℕ) (out : ArrayVec ℕ) (x digits y z : ℕ)
+pub text_push_fields_one : (N : ℕ) (out : ArrayVec ℕ) (x digits y z : ℕ)
     → OneOutcome (λ (o : ArrayVec ℕ). (o.items ≡ out.items ++ fields x digits y z) × (array_vec_len o ≡ array_vec_len out + digits + 13))
-text_put_fields_one N out x digits y z a b p q = λ i. record { items = (p.0 ∙ sym q.0) i }
+text_push_fields_one N out x digits y z a b p q = λ i. record { items = (p.0 ∙ sym q.0) i }
 
-pub text_put_answer_one : (N : ℕ) (out : ArrayVec ℕ) (a : Answer)
+pub text_push_answer_one : (N : ℕ) (out : ArrayVec ℕ) (a : Answer)
     → OneOutcome (λ (o : ArrayVec ℕ). (o.items ≡ out.items ++ answer_row a) × (array_vec_len o ≡ array_vec_len out + 21))
-text_put_answer_one N out x a b p q = λ i. record { items = (p.0 ∙ sym q.0) i }
+text_push_answer_one N out x a b p q = λ i. record { items = (p.0 ∙ sym q.0) i }
 
 pub reach_reach_one : (program : List ℕ) (p : Place) (most : ℕ) (near : ArrayVec Near)
     → OneOutcome (λ (o : ArrayVec Near). Reaches (nexts_at (words program)) p.0 most o.items)

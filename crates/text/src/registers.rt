@@ -6,7 +6,7 @@ ghost use Rattle.machine.specs.Image.{cell_in};
 ghost use Rattle.text.specs.Rows.{index_of, register_row, cluster_rows, register_rows};
 
 use crate::Shown;
-use crate::rows::put_fields;
+use crate::rows::push_fields;
 use machine::image::offset;
 use word::number::word_at;
 
@@ -45,7 +45,7 @@ fn put_register(out: &mut Shown, image: &[u8; 2888], c: usize, r: usize)
 {
     let v = landed_at(image, index(c, r));
     if v != 0 {
-        put_fields(out, c as u64, 2, r as u64, v as u64);
+        push_fields(out, c as u64, 2, r as u64, v as u64);
     }
 }
 

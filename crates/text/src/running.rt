@@ -10,20 +10,20 @@ ghost use Rattle.text.specs.Rows.{answer_row};
 
 use crate::Shown;
 use crate::registers::put_registers;
-use crate::rows::put_answer;
+use crate::rows::push_answer;
 use arrayvec::ArrayVec;
 use lines::reading::{BadLine, Text, read};
 use loader::{Answer, Refusal, bad_program_length, load_with};
 use sandbox::vex_run;
 use word::number::word_at;
 
-// Line 1 alone: at this size what assembly has as `refused`; what they share is put_answer.
+// Line 1 alone: at this size what assembly has as `refused`; what they share is push_answer.
 fn answered(a: Answer) -> Shown
     ensures is { result.items ≡ answer_row a }
     ensures len { array_vec_len result ≡ 21 }
 {
     let mut out = ArrayVec::new();
-    put_answer(&mut out, a);
+    push_answer(&mut out, a);
     out
 }
 

@@ -15,7 +15,7 @@ loop-syllable-preserved c =
     let size : chunks_exact_size (take_source c.next.new.self) ≡ 4 = s.0.0 ∙ c.loop-syllable.invariant.2 in
     let l : length (chunks_exact_rest (take_source c.loop-syllable.syllable-iterator)) ≡ 4 + length rest =
     omega (arith, ap length s.0.1.0, length-append c.in-Some.syllable.now rest) in
-    (omega arith, tt, size, omega arith, put_more c.in-Some.syllable.now c.loop-syllable.invariant.4 s.0.1.0 four s.1 c.word_at-s.ensures c.behind.ensures c.put_field.ensures.is)
+    (omega arith, tt, size, omega arith, put_more c.in-Some.syllable.now c.loop-syllable.invariant.4 s.0.1.0 four s.1 c.word_at-s.ensures c.behind.ensures c.push_field.ensures.is)
 
 pub returns-clause-is : goal.returns-clause-is
 returns-clause-is c =
