@@ -19,12 +19,16 @@ fn next_from(text: &[u8], from: usize, w: Walk) -> usize
     requires { (from ≤ length text.now) × (w.count ≤ from * 2) }
     ensures { result ≡ next (walk_of w) (hear_from text.now from) }
 {
+    // no line is read where no instruction is open
+    if w.opened == 0 {
+        return w.count;
+    }
     let mut v = w;
     for (_, l) in Lines::from_place(text, from) {
-        if v.opened == 0 {
-            return v.count;
-        }
         v = step(v, l.line);
+        if v.opened == 0 {
+            break;
+        }
     }
     v.count
 }
