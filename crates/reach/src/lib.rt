@@ -2,6 +2,7 @@
 #![tactic(auto)]
 
 ghost use Rattle.std.specs.Prelude.{◌≡◌, true, [], ◌∷◌, ◌≤◌, ◌<◌, IfOk, IfErr};
+ghost use Rattle.std.specs.List.{insert};
 ghost use Rattle.arrayvec.specs.ArrayVec.{array_vec_len};
 ghost use Rattle.word.specs.Bytes.{words};
 ghost use Rattle.isa.specs.Program.{is_start};
@@ -14,6 +15,7 @@ use isa::control::nexts;
 use isa::program::following;
 use isa::stretch::cut;
 use isa::{Nexts, Place};
+use std::mem::replace;
 
 // A place that is reached, and a number of nexts that lead there.
 #[derive(Clone, Copy, Default)]
@@ -31,8 +33,21 @@ fn search(near: &[Near], q: Place) -> Result<usize, usize>
     near.binary_search_by_key(&q.0, |n| n.place.0)
 }
 
+// Puts x in at an index, and carries what stands from there to the end one further. The vector's own `insert` would need memmove of the system.
+fn put_in(near: &mut ArrayVec<Near, 256>, at: usize, x: Near)
+    requires inside { at ≤ array_vec_len near.old }
+    requires room { array_vec_len near.old < 256 }
+    ensures { near.new.items ≡ insert near.old.items at x }
+{
+    let mut carried = x;
+    for i in at..near.len() {
+        carried = replace(&mut near[i], carried);
+    }
+    near.push(carried);
+}
+
 // Puts place q in, k nexts away, where it is not there yet.
-#[tactic(auto, using(crate::proofs::Growing::joined_insert, crate::proofs::Growing::joined_there))]
+#[tactic(auto, using(crate::proofs::Growing::joined_there))]
 fn insert(near: &mut ArrayVec<Near, 256>, q: Place, k: usize)
     requires count_bound { array_vec_len near.old < 256 }
     requires ordered { Ordered near.old.items k }
@@ -40,7 +55,7 @@ fn insert(near: &mut ArrayVec<Near, 256>, q: Place, k: usize)
 {
     let x = Near { place: q, steps: k };
     if let Err(at) = search(near.as_slice(), q) {
-        near.insert(at, x);
+        put_in(near, at, x);
     }
 }
 
