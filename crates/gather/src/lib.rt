@@ -125,10 +125,10 @@ pub struct Before<'a> {
 
 // The values of what an operation reads: s1, s2 or the immediate, and b.
 #[derive(Clone, Copy)]
-struct Operands {
-    x: u32,
-    y: u32,
-    b: u32,
+pub struct Operands {
+    pub x: u32,
+    pub y: u32,
+    pub b: u32,
 }
 
 impl Scratch {
@@ -151,6 +151,26 @@ impl Scratch {
         ensures { result.now ≡ self.now.stores }
     {
         self.stores.as_slice()
+    }
+
+    // One more result of the instruction.
+    #[inline(always)]
+    pub fn note(&mut self, m: Made)
+        requires { length self.old.results < 64 }
+        ensures results { self.new.results ≡ self.old.results ++ m ∷ [] }
+        ensures stores { self.new.stores ≡ self.old.stores }
+    {
+        self.results.push(m);
+    }
+
+    // One more store of the instruction.
+    #[inline(always)]
+    pub fn note_store(&mut self, s: Store)
+        requires { length self.old.stores < 32 }
+        ensures stores { self.new.stores ≡ self.old.stores ++ s ∷ [] }
+        ensures results { self.new.results ≡ self.old.results }
+    {
+        self.stores.push(s);
     }
 }
 
@@ -250,7 +270,7 @@ impl Before<'_> {
             return;
         }
         let after = delay(self.delays, opcode, r);
-        scratch.results.push(Made {
+        scratch.note(Made {
             register: r,
             value: v,
             delay: after,
@@ -341,7 +361,7 @@ impl Before<'_> {
             ≡ scratch.old.stores ++ record { at = a; size = n; value = stored op.opcode (fire_at self.now.registers.now.all op).stored } ∷ [] }
         ensures results { scratch.new.results ≡ scratch.old.results }
     {
-        scratch.stores.push(Store {
+        scratch.note_store(Store {
             at: a,
             size: n,
             value: ops::stored(op.opcode, self.registers.made(op.stored)),

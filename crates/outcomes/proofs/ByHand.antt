@@ -51,6 +51,8 @@ use Rattle.machine.proofs.Arrays.{registers_of_length}
 use Rattle.machine.specs.declared.State.{State}
 use Rattle.ticks.specs.Ticks.{views, latest, ready_ticks}
 use Rattle.ticks.specs.declared.Registers.{Registers}
+use Rattle.ticks.specs.declared.Made.{Made}
+use Rattle.memory.specs.declared.Store.{Store}
 use Rattle.gather.specs.declared.Scratch.{Scratch}
 use Rattle.loader.specs.declared.Answer.{Answer}
 use Rattle.run.specs.Loop.{Returned}
@@ -181,8 +183,18 @@ pub ticks_registers_free_from_one : (self : Registers) → OneOutcome (λ (r : C
 ticks_registers_free_from_one self a b p q = λ i. record { 0 = (p ∙ sym q) i }
 
 -- scratch is its two lists
+scratch_is : {a b : Scratch} → a.results ≡ b.results → a.stores ≡ b.stores → a ≡ b
+scratch_is e f = λ i. record { results = e i; stores = f i }
+
 pub gather_scratch_new_one : OneOutcome (λ (r : Scratch). (r.results ≡ []) × (r.stores ≡ []))
-gather_scratch_new_one a b p q = λ i. record { results = (p.0 ∙ sym q.0) i; stores = (p.1 ∙ sym q.1) i }
+gather_scratch_new_one a b p q = scratch_is (p.0 ∙ sym q.0) (p.1 ∙ sym q.1)
+
+pub gather_scratch_note_one : (self : Scratch) (m : Made) → OneOutcome (λ (s : Scratch). (s.results ≡ self.results ++ m ∷ []) × (s.stores ≡ self.stores))
+gather_scratch_note_one self m a b p q = scratch_is (p.0 ∙ sym q.0) (p.1 ∙ sym q.1)
+
+pub gather_scratch_note_store_one : (self : Scratch) (s : Store)
+    → OneOutcome (λ (t : Scratch). (t.stores ≡ self.stores ++ s ∷ []) × (t.results ≡ self.results))
+gather_scratch_note_store_one self s a b p q = scratch_is (p.1 ∙ sym q.1) (p.0 ∙ sym q.0)
 
 -- what the machine's run leaves is what is returned
 pub run_run_one : (table : Table) (program memory landing : List ℕ) (n : Count) (s : State)
