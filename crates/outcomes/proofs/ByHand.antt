@@ -15,12 +15,17 @@ use Rattle.vliw.specs.Machine.{in_order, step}
 use Rattle.isa.specs.Decode.{decode}
 use Rattle.isa.specs.Program.{spots, operation, following, is_start}
 use Rattle.isa.specs.Touch.{nexts, listed}
+use Rattle.isa.specs.Cuts.{GivesInstruction}
+use Rattle.isa.specs.Walk.{spots_left}
 use Rattle.isa.specs.declared.Count.{Count}
 use Rattle.isa.specs.declared.Nexts.{Nexts}
 use Rattle.isa.specs.declared.Nexts.TheVariants.{Nowhere, One, Two}
 use Rattle.isa.specs.declared.Op.{Op}
 use Rattle.isa.specs.declared.Place.{Place}
+use Rattle.isa.specs.declared.Spot.{Spot}
 use Rattle.isa.specs.declared.Table.{Table}
+use Rattle.isa.specs.declared.cuts.Cuts.{Cuts}
+use Rattle.isa.specs.declared.walk.Walk.{Walk as Walks}
 use Rattle.reach.specs.declared.Near.{Near}
 use Rattle.reach.specs.Near.{Reaches}
 use Rattle.reach.specs.Nexts.{nexts_at}
@@ -31,9 +36,14 @@ use Rattle.schedule.proofs.Once.{one_verdict, one_outcome}
 use Rattle.source.specs.Grammar.{lines_of}
 use Rattle.source.specs.Walk.{refused, step as step_by}
 use Rattle.source.specs.Seek.{Cut, heard_in, walk_of, operates}
+use Rattle.source.specs.Each.{GivesLine}
+use Rattle.source.specs.declared.each_line.Lines.{Lines}
 use Rattle.source.specs.declared.reading.Line.{Line}
+use Rattle.source.specs.declared.reading.ReadLine.{ReadLine}
 use Rattle.source.specs.declared.walking.Walk.{Walk}
-use Rattle.std.specs.Prelude.{Result, Ok, Err}
+use denote.Ref.{Bor}
+use Rattle.std.specs.Prelude.{Option, Result, Ok, Err}
+use Rattle.std.specs.Iterator.{YieldsFirst}
 use Rattle.source.specs.Reader.{hear_all}
 use Rattle.evaluation.specs.declared.labels.Labels.{Labels}
 use Rattle.assembler.specs.Faults.{Verdict as Text, Sound, Fault, verdict}
@@ -59,8 +69,10 @@ use Rattle.run.specs.Loop.{Returned}
 use Rattle.run.specs.declared.Left.{Left}
 use Rattle.text.specs.Rows.{field, fields, answer_row}
 use Rattle.arrayvec.specs.ArrayVec.{ArrayVec, array_vec_len}
-use Rattle.outcomes.specs.OneOutcome.{OneOutcome}
+use Rattle.outcomes.specs.OneOutcome.{OneOutcome, OneOutcomeSeen}
+use Rattle.outcomes.specs.Steps.{isa_walk_next, isa_cuts_next, source_lines_next}
 use Rattle.outcomes.proofs.States.{place_is, state_is}
+use Rattle.outcomes.proofs.Steps.{walk_is, cuts_is, lines_is}
 
 -- nothing of it goes by the cluster, so take one
 pub isa_decode_still_one : (s : ℕ) → OneOutcome (λ (r : Op). ((c : ℕ) → r ≡ decode c s))
@@ -231,3 +243,16 @@ text_push_answer_one N out x a b p q = λ i. record { items = (p.0 ∙ sym q.0) 
 pub reach_reach_one : (program : List ℕ) (p : Place) (most : ℕ) (near : ArrayVec Near)
     → OneOutcome (λ (o : ArrayVec Near). Reaches (nexts_at (words program)) p.0 most o.items)
 reach_reach_one program p most near a b h k = λ i. record { items = one_list (nexts_at (words program)) p.0 most a.items b.items h k i }
+
+-- a step is what comes and what is left
+pub isa_walk_next_one : (self : Walks)
+    → OneOutcomeSeen isa_walk_next (λ (o : record { result : Option Spot; self : Walks }). YieldsFirst spots_left self o.result o.self)
+isa_walk_next_one self a b p q = walk_is self a.result b.result a.self b.self p q
+
+pub isa_cuts_next_one : (self : Cuts)
+    → OneOutcomeSeen isa_cuts_next (λ (o : record { result : Option (Place × (Bor (List ℕ))); self : Cuts }). GivesInstruction self o.result o.self)
+isa_cuts_next_one self a b p q = cuts_is self a.result b.result a.self b.self p q
+
+pub source_lines_next_one : (self : Lines)
+    → OneOutcomeSeen source_lines_next (λ (o : record { result : Option (ℕ × ReadLine); self : Lines }). GivesLine self o.result o.self)
+source_lines_next_one self a b p q = lines_is self a.result b.result a.self b.self p q

@@ -1,7 +1,7 @@
 -- Written by tests/public. Two outcomes that meet an equation are equal.
 use mathlib.Core.Path.{◌∙◌, sym}
 use Rattle.outcomes.specs.Isa.{Isa}
-use Rattle.outcomes.proofs.ByHand.{isa_nexts_one, isa_decode_still_one, isa_following_one}
+use Rattle.outcomes.proofs.ByHand.{isa_nexts_one, isa_cuts_next_one, isa_decode_still_one, isa_following_one, isa_walk_next_one}
 
 pub isa : Isa
 isa = record {
@@ -17,6 +17,7 @@ isa = record {
   reads_every_one = λ _ _ _ p q. p ∙ sym q;
   turn_one = λ _ _ _ _ _ p q. p ∙ sym q;
   nexts_one = isa_nexts_one;
+  cuts_next_one = isa_cuts_next_one;
   immediate_one = λ _ _ _ p q. p ∙ sym q;
   offset_one = λ _ _ _ p q. p ∙ sym q;
   compute_one = λ _ _ _ _ p q. p ∙ sym q;
@@ -51,4 +52,5 @@ isa = record {
   delay_one = λ _ _ _ _ _ p q. p ∙ sym q;
   either_one = λ _ _ _ _ p q. p ∙ sym q;
   both_one = λ _ _ _ _ p q. p ∙ sym q;
+  walk_next_one = isa_walk_next_one;
 }

@@ -1,6 +1,7 @@
 -- Written by tests/public.
 pub mod ByHand
 pub mod States
+pub mod Steps
 pub mod Word
 pub mod Ops
 pub mod Isa

@@ -1,12 +1,16 @@
 -- Written by tests/public. The promise of each public function of isa admits one outcome only.
 use Rattle.std.specs.Prelude.{Bool, List, Option, eqb, get_or, map, ℕ, ◌&&◌, ◌+◌, ◌-◌, ◌||◌, ◌≡◌}
+use Rattle.std.specs.Iterator.{YieldsFirst}
+use denote.Ref.{Bor}
 use Rattle.word.specs.Bytes.{words}
 use Rattle.word.specs.Choice.{bit}
 use Rattle.isa.specs.Control.{controls, is_control, leaves, reads_every, solitary, target_of, turn_of, way_of}
+use Rattle.isa.specs.Cuts.{GivesInstruction}
 use Rattle.isa.specs.Decode.{decode, immediate_of, offset_of}
 use Rattle.isa.specs.Program.{before_all, cluster, following, is_start, next_spot, operation, spots}
 use Rattle.isa.specs.Syllable.{bits, ends, format_of, is_alu, is_copy, is_mem, is_mul, opcode, opens, source, within}
 use Rattle.isa.specs.Touch.{delay_of, listed, nexts}
+use Rattle.isa.specs.Walk.{spots_left}
 use Rattle.isa.specs.declared.Delays.{Delays}
 use Rattle.isa.specs.declared.Destinations.{Destinations}
 use Rattle.isa.specs.declared.Format.{Format}
@@ -17,7 +21,10 @@ use Rattle.isa.specs.declared.Slot.{Slot}
 use Rattle.isa.specs.declared.Spot.{Spot}
 use Rattle.isa.specs.declared.Turn.{Turn}
 use Rattle.isa.specs.declared.Way.{Way}
-use Rattle.outcomes.specs.OneOutcome.{OneOutcome}
+use Rattle.isa.specs.declared.cuts.Cuts.{Cuts}
+use Rattle.isa.specs.declared.walk.Walk.{Walk}
+use Rattle.outcomes.specs.OneOutcome.{OneOutcome, OneOutcomeSeen}
+use Rattle.outcomes.specs.Steps.{isa_cuts_next, isa_walk_next}
 
 pub record Isa : Type 0 where
   -- crates/isa/src/control.rt
@@ -33,6 +40,10 @@ pub record Isa : Type 0 where
   pub reads_every_one : (w : Way) → OneOutcome (λ (r : Bool). r ≡ reads_every w)
   pub turn_one : (w : Way) (b : ℕ) (j : Place) → OneOutcome (λ (r : Turn). r ≡ turn_of w b j)
   pub nexts_one : (stretch : List ℕ) (j : Place) → OneOutcome (λ (r : Nexts). listed r ≡ nexts j.0 (map operation (spots (words stretch))))
+  -- crates/isa/src/cuts.rt
+  pub cuts_next_one : (self : Cuts)
+      → OneOutcomeSeen isa_cuts_next (λ (o : record { result : Option (Place × (Bor (List ℕ))); self : Cuts }).
+      GivesInstruction self o.result o.self)
   -- crates/isa/src/decode.rt
   pub immediate_one : (s : ℕ) → OneOutcome (λ (r : ℕ). r ≡ immediate_of s)
   pub offset_one : (s : ℕ) → OneOutcome (λ (r : ℕ). r ≡ offset_of s)
@@ -73,3 +84,7 @@ pub record Isa : Type 0 where
   -- crates/isa/src/truth.rt
   pub either_one : (a b : Bool) → OneOutcome (λ (r : Bool). r ≡ (a || b))
   pub both_one : (a b : Bool) → OneOutcome (λ (r : Bool). r ≡ (a && b))
+  -- crates/isa/src/walk.rt
+  pub walk_next_one : (self : Walk)
+      → OneOutcomeSeen isa_walk_next (λ (o : record { result : Option Spot; self : Walk }).
+      YieldsFirst spots_left self o.result o.self)

@@ -1,5 +1,6 @@
 -- Written by tests/public.
 pub mod OneOutcome
+pub mod Steps
 pub mod Word
 pub mod Ops
 pub mod Isa
