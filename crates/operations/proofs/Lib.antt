@@ -1,6 +1,7 @@
 pub mod Spellings
 pub mod Finite
 pub mod Rows
+pub mod Letters
 pub mod Naming
 pub mod Breadths
 pub mod Gathering
