@@ -28,7 +28,7 @@ use Rattle.source.specs.declared.walking.Walk.{Walk as Walked}
 use Rattle.source.proofs.Places.{lines_here, next_shut, few_more, few_next, seek_from}
 use Rattle.evaluation.specs.Known.{hash_of, head_of, line_at, in_table, Sound, AllSound, Tabled}
 use Rattle.evaluation.specs.declared.labels.Known.{Known}
-use Rattle.assembler.specs.Passes.{noted}
+use Rattle.assembler.specs.Passes.{hashed, noted}
 use Rattle.assembler.proofs.Numbering.{given_is}
 
 -- the table's last label is asked last
@@ -39,9 +39,12 @@ table_more text [] k name later = refl
 table_more text (j ∷ known) k name later =
     ap (pick (gives name (hear (line_at text j.place))) (Some (record { place = j.place; value = j.value }))) (table_more text known k name later)
 
-sound_more : (text : List ℕ) (known : List Known) (k : Known) → AllSound text known → Sound text k → AllSound text (known ++ (k ∷ []))
-sound_more text [] k a s = (s, tt)
-sound_more text (j ∷ known) k a s = (a.0, sound_more text known k a.1 s)
+sound_more : (text hashes : List ℕ) (known : List Known) (h : ℕ) (k : Known) → AllSound text hashes known → Sound text h k
+    → AllSound text (hashes ++ (h ∷ [])) (known ++ (k ∷ []))
+sound_more text [] [] h k a s = (s, tt)
+sound_more text [] (j ∷ known) h k a s = absurd a
+sound_more text (g ∷ hashes) [] h k a s = absurd a
+sound_more text (g ∷ hashes) (j ∷ known) h k a s = (a.0, sound_more text hashes known h k a.1 s)
 
 -- a label stands where no instruction is open
 given_shut : (w : Walk) (x : Heard) (name : List ℕ) → given_by x ≡ some name → refused w x ≡ false → w.opened ≡ 0
@@ -58,17 +61,17 @@ unfolding hear read_line tokens
 behind w text name = rw (drop-length text)
 
 -- a table of the labels above a place, and what the lines from there on have
-pub record Upto (text : List ℕ) (known : List Known) (from : Option ℕ) (w : Walked) : Type 0 where
-  pub sound : AllSound text known
+pub record Upto (text hashes : List ℕ) (known : List Known) (from : Option ℕ) (w : Walked) : Type 0 where
+  pub sound : AllSound text hashes known
   pub count : w.count ≤ length text * 2
   pub few : IfSome from (λ at. w.count ≤ at * 2)
   pub seeks : (name : List ℕ) → seek start 0 (lines_of text) name ≡ in_table text known name (seek_from (walk_of w) text from name)
 
-pub upto_start : (text : List ℕ) → Upto text [] (Some 0) (record { count = 0; opened = 0 })
+pub upto_start : (text : List ℕ) → Upto text [] [] (Some 0) (record { count = 0; opened = 0 })
 upto_start text = record { sound = tt; count = omega arith; few = omega arith; seeks = λ name. refl }
 
-module _ {text : List ℕ} {known : List Known} {from : Option ℕ} {w : Walked} (u : Upto text known from w) where
-  pub upto_end : from ≡ None → Tabled text known (length text) w
+module _ {text hashes : List ℕ} {known : List Known} {from : Option ℕ} {w : Walked} (u : Upto text hashes known from w) where
+  pub upto_end : from ≡ None → Tabled text hashes known (length text) w
   upto_end e =
       record {
         at_inside = omega arith;
@@ -77,7 +80,7 @@ module _ {text : List ℕ} {known : List Known} {from : Option ℕ} {w : Walked}
         seeks = λ name. u.seeks name ∙ ap (in_table text known name) (rw e (behind (walk_of w) text name));
       }
 
-  pub upto_here : {at : ℕ} → from ≡ Some at → at ≤ length text → Tabled text known at w
+  pub upto_here : {at : ℕ} → from ≡ Some at → at ≤ length text → Tabled text hashes known at w
   upto_here e h =
       record {
         at_inside = h;
@@ -105,17 +108,20 @@ module _ {s t : Lines} {at : ℕ} {l : ReadLine} (g : Gives s at l t) where
       go None e = refl
       go (Some n) e = rw e
 
-  module _ {known : List Known} {w : Walked} (u : Upto s.text.now known s.next w) (r : refused (walk_of w) (hear l.bytes.now) ≡ false) where
+  module _ {hashes : List ℕ} {known : List Known} {w : Walked} (u : Upto s.text.now hashes known s.next w) (r : refused (walk_of w) (hear l.bytes.now) ≡ false) where
+    abbrev hashes_then : List ℕ
+    hashes_then = hashes ++ hashed (name_in l.bytes.now l.line.label)
+
     abbrev then : List Known
     then = known ++ noted (name_in l.bytes.now l.line.label) at w.count
 
-    sound_then : at ≤ length s.text.now → AllSound s.text.now then
+    sound_then : at ≤ length s.text.now → AllSound s.text.now hashes_then then
     sound_then h = go (name_in l.bytes.now l.line.label) refl
       where
-        go : (n : Maybe (List ℕ)) → name_in l.bytes.now l.line.label ≡ n → AllSound s.text.now (known ++ noted n at w.count)
-        go none e = rw append-nil u.sound
+        go : (n : Maybe (List ℕ)) → name_in l.bytes.now l.line.label ≡ n → AllSound s.text.now (hashes ++ hashed n) (known ++ noted n at w.count)
+        go none e = rw (append-nil hashes, append-nil known) u.sound
         go (some name) e =
-            sound_more s.text.now known _ u.sound (
+            sound_more s.text.now hashes known _ _ u.sound (
               h,
               λ other f.
                   let y : gives other (hear l.bytes.now) ≡ true = rw this_line at f in
@@ -137,10 +143,10 @@ module _ {s t : Lines} {at : ℕ} {l : ReadLine} (g : Gives s at l t) where
         go (some name) e =
             let shut = given_shut (walk_of w) (hear l.bytes.now) name (given ∙ e) r in
             rw (next_shut (walk_of w) (hear_from s.text.now at) shut)
-            (sym (table_more s.text.now known (record { place = at; hash = hash_of name; value = w.count }) other later ∙ rw this_line))
+            (sym (table_more s.text.now known (record { place = at; value = w.count }) other later ∙ rw this_line))
 
     pub upto_more : {v : Walked} → walk_of v ≡ step (walk_of w) (hear l.bytes.now) → v.count ≤ w.count + 4 → (operates l.line ≡ false → v.count ≡ w.count)
-        → Upto s.text.now then t.next v
+        → Upto s.text.now hashes_then then t.next v
     upto_more e a b =
         let m = few_more g u.few a b in
         record {

@@ -22,10 +22,14 @@ use Rattle.assembler.specs.declared.judging.Wrong.{Wrong}
 use Rattle.assembler.specs.declared.judging.Wrong.TheVariants as wrong
 use Rattle.assembler.specs.declared.judging.LowestFault.{LowestFault}
 
--- a label of the table, where a line gives one
+-- a label of the table, and its name's hash, where a line gives one
+abbrev pub hashed : Maybe (List ℕ) → List ℕ
+hashed none = []
+hashed (some name) = hash_of name ∷ []
+
 abbrev pub noted : Maybe (List ℕ) → ℕ → ℕ → List Known
 noted none place value = []
-noted (some name) place value = record { place = place; hash = hash_of name; value = value } ∷ []
+noted (some name) place value = record { place = place; value = value } ∷ []
 
 abbrev pub is_at : ℕ → Option Given → Bool
 is_at place None = false

@@ -39,10 +39,12 @@ fn refused(number: u32, place: u64) -> Answer
 fn answer(text: &[u8], program: &mut [u8], room: usize) -> Answer
     ensures { record { answer = result; program = program.new } ≡ assembled text.now program.old room }
 {
+    let mut hashes = ArrayVec::<u32, 4096>::new();
     let mut known = ArrayVec::<Known, 4096>::new();
-    let (at, walk) = fill(&mut known, text);
+    let (at, walk) = fill(&mut hashes, &mut known, text);
     let labels = Labels {
         text,
+        hashes: hashes.as_slice(),
         known: known.as_slice(),
         at,
         walk,

@@ -13,11 +13,10 @@ use source::seeking::{Given, search};
 use source::walking::Walk;
 use values::{Fault, Value};
 
-// A label of the table: the place of its line, the hash of its name, and its value.
+// A label of the table: the place of its line, and its value.
 #[derive(Clone, Copy, Default)]
 pub struct Known {
     pub place: usize,
-    pub hash: u32,
     pub value: usize,
 }
 
@@ -25,12 +24,13 @@ pub struct Known {
 #[derive(Clone, Copy)]
 pub struct Labels<'a> {
     pub text: &'a [u8],
-    // the first ones
+    // the first ones, and the hashes of their names: apart, as a walk through the table reads little else
+    pub hashes: &'a [u32],
     pub known: &'a [Known],
     // the line where the search for the others goes on, and how far the text has come there
     pub at: usize,
     pub walk: Walk,
-    pub ghost tabled: { Tabled text.now known.now at walk } by { tabled_prop text.now known.now at walk },
+    pub ghost tabled: { Tabled text.now hashes.now known.now at walk } by { tabled_prop text.now hashes.now known.now at walk },
 }
 
 impl<'a> Labels<'a> {
@@ -39,8 +39,9 @@ impl<'a> Labels<'a> {
         ensures { result ≡ seek start 0 (lines_of self.now.text.now) name.now }
     {
         let h = hash(name);
-        for k in self.known {
-            if k.hash == h && is_given(self.text, k.place, name) {
+        for (i, other) in self.hashes.iter().enumerate() {
+            if *other == h && is_given(self.text, self.known[i].place, name) {
+                let k = self.known[i];
                 return Some(Given {
                     place: k.place,
                     value: k.value,

@@ -3,4 +3,4 @@ use Rattle.assembler.proofs.Tables.{Upto}
 use Rattle.assembler.proofs.tabling.fill.Given as goal
 
 abbrev pub invariant-loop-place : goal.invariant-loop-place
-invariant-loop-place l = (l.place-iterator.text.now ≡ l.text) × Upto l.text l.known.items l.place-iterator.next l.w
+invariant-loop-place l = (l.place-iterator.text.now ≡ l.text) × Upto l.text l.hashes.items l.known.items l.place-iterator.next l.w
