@@ -115,13 +115,13 @@ fn narrow(c: u32, s: u32) -> Op
     }
 }
 
-// Opcodes 1 to 51: what computes. The forms with s2 as a register or a number stand together, since most operations have them. Each range is
-// inlined, since the run's loop decodes by it: called, an Op is built in memory, a fifth more machine instructions for adds.
+// Opcodes 1 to 51: what computes. The forms with s2 as a register or a number stand together, since most operations have them.
 #[inline(always)]
 pub fn compute(c: u32, s: u32) -> Op
     requires { (c < 4) × (0 < opcode s) × (opcode s ≤ 51) }
     ensures { result ≡ decode c s }
 {
+    // each range is inlined, since the run's loop decodes by it: called, an Op is built in memory, a fifth more machine instructions for adds
     let o = opcode(s);
     if within(19, 23, o) {
         return narrow(c, s);

@@ -56,13 +56,14 @@ fn put_register(image: &mut [u8], r: usize, c: Cell)
     image[at + 9] = c.landing;
 }
 
-// The state's image, over all that `image` held. Sized is asked, since behind a reference the type does not tell the arrays' lengths.
+// The state's image, over all that `image` held.
 pub fn write(image: &mut [u8], s: &State)
     requires image_len { length image.old ≡ 2888 }
     requires sized { Sized s.now }
     requires place_bound { (s.now.place.0 < 2 ^ 32) × (s.now.link.0 < 2 ^ 32) }
     ensures { image.new ≡ image_of s.now.place.0 (registers_of s.now) s.now.link.0 }
 {
+    // Sized is asked, since behind a reference the type does not tell the arrays' lengths
     put_word(image, 0, s.place.0 as u32);
     for r in 0..288 {
         put_register(image, r, s.register(r));

@@ -52,8 +52,7 @@ pub fn vex_check(table: &[u8], program: &[u8], room: &mut [u8]) -> u32
     answer.number
 }
 
-// Runs at most n instructions of a program, from the state that the image holds: the answer in the room, and its number returned. Its
-// parameters are what the C interface hands over (include/vex.h).
+// Runs at most n instructions of a program, from the state that the image holds: the answer in the room, and its number returned.
 pub fn vex_run(
     table: &[u8],
     program: &[u8],
@@ -74,6 +73,7 @@ pub fn vex_run(
           room = room.old;
         }) }
 {
+    // the parameters are what the C interface hands over (include/vex.h)
     let answer = match call(table, program, state, memory, landing, n, room) {
         Ok(ended) => Answer::from(ended),
         Err(unrun) => Answer::from(unrun),

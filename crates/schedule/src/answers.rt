@@ -5,10 +5,10 @@ ghost use Rattle.schedule.specs.Answer.{verdict_answer};
 use crate::TooSoon;
 use loader::Answer;
 
-// A function: neither Answer nor Result is of this crate, so no From may be written between them.
 pub fn of_verdict(v: Result<(), TooSoon>) -> Answer
     ensures { result ≡ verdict_answer v }
 {
+    // a function: neither Answer nor Result is of this crate, so no From may be written between them
     match v {
         Ok(()) => Answer {
             number: 0,

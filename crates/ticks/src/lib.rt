@@ -108,11 +108,12 @@ impl Registers {
         t.0 < self.all[r as usize].ready
     }
 
-    // Whether any register is busy. Freed and Bank are facts at a tick, which goes on, so that no invariant of the registers can say them. Only a fault can come of going through them: from tick `free` on none is.
+    // Whether any register is busy. Only a fault can come of going through them: from tick `free` on none is.
     pub fn any_late(&self, free: Count, t: Count) -> bool
         requires { Freed t.0 free.0 self.now.all }
         ensures { result ≡ any_below (λ r. ltb t.0 (register_at self.now.all r).ready) 288 }
     {
+        // Freed and Bank are facts at a tick, which goes on, so that no invariant of the registers can say them
         t.0 < free.0 && self.any_ready_after(t)
     }
 

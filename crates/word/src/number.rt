@@ -25,11 +25,12 @@ pub fn word_at(l: &[u8], at: usize) -> u32
     u32::from_be_bytes([l[at], l[at + 1], l[at + 2], l[at + 3]])
 }
 
-// The low byte of `v`. A place in bytes is what these three are for.
+// The low byte of `v`.
 pub fn put_byte(l: &mut [u8], at: usize, v: u32)
     requires { at < length l.old }
     ensures { l.new ≡ put_number 1 at v l.old }
 {
+    // a place in bytes is what these three are for
     l[at] = (v % 256) as u8;
 }
 
