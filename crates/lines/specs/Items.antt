@@ -48,6 +48,14 @@ abbrev pub program_held : Result (Unit {0}) BadLine → List ℕ → Program
 program_held (Err e) program = lines.BadLine e.0
 program_held (Ok u) program = Code program
 
+abbrev pub lines_held : Result (ℕ × ℕ) BadLine → List ℕ → List ℕ → Read
+lines_held (Err e) table program = lines.Bad e.0
+lines_held (Ok p) table program = lines.Good (record { table = table; memory = p.0; n = p.1; program = program })
+
+abbrev pub reading_in : Result (Unit {0}) BadLine → Text → Result Text BadLine
+reading_in (Err e) t = Err e
+reading_in (Ok u) t = Ok t
+
 abbrev pub reading_of : Read → Result Text BadLine
 reading_of (lines.Bad i) = Err (record { 0 = i })
 reading_of (lines.Good s) =

@@ -1,9 +1,9 @@
 // The lines of a text, read in their order up to the first that is bad.
-ghost use Rattle.std.specs.Prelude.{◌≡◌, [], ◌∷◌, ◌+◌, ◌≤◌, ◌++◌, length, IfSome, MatchOption};
+ghost use Rattle.std.specs.Prelude.{◌≡◌, [], ◌∷◌, ◌+◌, ◌≤◌, ◌++◌, length, IfSome, OnErr, MatchOption};
 ghost use Rattle.word.specs.Bytes.{bytes};
 ghost use Rattle.arrayvec.specs.ArrayVec.{array_vec_len};
 ghost use Rattle.lines.specs.Lines.{newline, pieces, Broken, Holds, first_line, program_from, from_first};
-ghost use Rattle.lines.specs.Items.{program_held, reading_of, single};
+ghost use Rattle.lines.specs.Items.{program_held, lines_held, reading_in, reading_of, single};
 
 use crate::items::{Item, item_at, syllable_at};
 use arrayvec::ArrayVec;
@@ -92,22 +92,56 @@ fn instructions(text: &[u8], program: &mut ArrayVec<u8, 16384>) -> Result<(), Ba
     Ok(())
 }
 
-// All lines of a text.
+// All lines of a text, the bytes and syllables put into `table` and `program`: the memory's length, and n.
 #[tactic(auto, using(crate::proofs::Heads::second_single, crate::proofs::Heads::third_single))]
+fn all_lines(
+    text: &[u8],
+    table: &mut ArrayVec<u8, 10923>,
+    program: &mut ArrayVec<u8, 16384>,
+) -> Result<(u32, u32), BadLine>
+    requires empty { (table.old.items ≡ []) × (program.old.items ≡ []) }
+    requires fits { length text.now ≤ 32768 }
+    ensures { lines_held result table.new.items program.new.items ≡ from_first (first_line 2 (pieces newline text.now)) }
+{
+    let rest = first_line(text, table).ok_or(BadLine(1))?;
+    let (memory, rest) = number_line(rest).ok_or(BadLine(2))?;
+    let (n, rest) = number_line(rest).ok_or(BadLine(3))?;
+    instructions(rest, program)?;
+    Ok((memory, n))
+}
+
+// What `read` finds, put into a text that has no bytes and no syllables: so nothing of its size is moved. On a bad line it stays as it was.
+pub fn read_into(text: &[u8], into: &mut Text) -> Result<(), BadLine>
+    requires empty { (into.old.table.items ≡ []) × (into.old.program.items ≡ []) }
+    requires fits { length text.now ≤ 32768 }
+    ensures is { reading_in result into.new ≡ reading_of (from_first (first_line 2 (pieces newline text.now))) }
+    ensures same { OnErr result (into.new ≡ into.old) }
+{
+    match all_lines(text, &mut into.table, &mut into.program) {
+        Ok((memory, n)) => {
+            into.memory = memory;
+            into.n = n;
+            Ok(())
+        }
+        Err(bad) => {
+            into.table.clear();
+            into.program.clear();
+            Err(bad)
+        }
+    }
+}
+
+// All lines of a text.
 pub fn read(text: &[u8]) -> Result<Text, BadLine>
     requires { length text.now ≤ 32768 }
     ensures { result ≡ reading_of (from_first (first_line 2 (pieces newline text.now))) }
 {
-    let mut table = ArrayVec::new();
-    let rest = first_line(text, &mut table).ok_or(BadLine(1))?;
-    let (memory, rest) = number_line(rest).ok_or(BadLine(2))?;
-    let (n, rest) = number_line(rest).ok_or(BadLine(3))?;
-    let mut program = ArrayVec::new();
-    instructions(rest, &mut program)?;
-    Ok(Text {
-        table,
-        memory,
-        n,
-        program,
-    })
+    let mut found = Text {
+        table: ArrayVec::new(),
+        memory: 0,
+        n: 0,
+        program: ArrayVec::new(),
+    };
+    read_into(text, &mut found)?;
+    Ok(found)
 }

@@ -42,8 +42,12 @@ use Rattle.source.specs.declared.reading.Line.{Line}
 use Rattle.source.specs.declared.reading.ReadLine.{ReadLine}
 use Rattle.source.specs.declared.walking.Walk.{Walk}
 use denote.Ref.{Bor}
-use Rattle.std.specs.Prelude.{Option, Result, Ok, Err}
+use Rattle.std.specs.Prelude.{Option, Result, Ok, Err, OnErr, ⊤}
 use Rattle.std.specs.Iterator.{YieldsFirst}
+use Rattle.lines.specs.Lines.{newline, pieces, first_line, from_first}
+use Rattle.lines.specs.Items.{reading_in, reading_of}
+use Rattle.lines.specs.declared.reading.BadLine.{BadLine}
+use Rattle.lines.specs.declared.reading.Text.{Text as Reading}
 use Rattle.source.specs.Reader.{hear_all}
 use Rattle.evaluation.specs.declared.labels.Labels.{Labels}
 use Rattle.assembler.specs.Faults.{Verdict as Text, Sound, Fault, verdict}
@@ -226,6 +230,22 @@ pub sandbox_vex_check_one : (table program room : List ℕ)
 sandbox_vex_check_one table program room a b p q =
     let e = one_outcome table program room _ _ p q in
     λ i. record { result = (e i).result; room = (e i).room }
+
+-- a text that was read, or a line that is bad and a text as it was
+read_is : (r s : Result ⊤ BadLine) (into t u : Reading) → reading_in r t ≡ reading_in s u → OnErr r (t ≡ into) → OnErr s (u ≡ into) → (r ≡ s) × (t ≡ u)
+read_is (Ok x) (Ok y) into t u e f g = (refl, cc)
+read_is (Ok x) (Err d) into t u e f g = cc
+read_is (Err c) (Ok y) into t u e f g = cc
+read_is (Err c) (Err d) into t u e f g =
+    let h : c ≡ d = cc in
+    (λ i. Err (h i), f ∙ sym g)
+
+pub lines_read_into_one : (text : List ℕ) (into : Reading)
+    → OneOutcome (λ (o : record { result : Result ⊤ BadLine; into : Reading }).
+    (reading_in o.result o.into ≡ reading_of (from_first (first_line 2 (pieces newline text)))) × OnErr o.result (o.into ≡ into))
+lines_read_into_one text into a b p q =
+    let e = read_is a.result b.result into a.into b.into (p.0 ∙ sym q.0) p.1 q.1 in
+    λ i. record { result = e.0 i; into = e.1 i }
 
 -- a vector is its elements
 pub text_push_field_one : (N : ℕ) (out : ArrayVec ℕ) (digits v after : ℕ)

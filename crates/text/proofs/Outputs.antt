@@ -20,6 +20,10 @@ use Rattle.text.specs.Rows.{answer_row, register_rows}
 
 -- ---- line 1, and the rows after it
 
+-- the first that is put
+pub first_put : {before row after : List ℕ} → before ≡ [] → after ≡ before ++ row → after ≡ row
+first_put e f = rw e at f
+
 module _ (e : Ending) {first : List ℕ} (f : first ≡ answer_row (ending_answer e)) where
   pub alone : ending_rows e ≡ [] → first ≡ printed_of e
   unfolding printed_of

@@ -11,7 +11,7 @@ use Rattle.loader.specs.declared.Answer.{Answer}
 use Rattle.loader.specs.declared.Refusal.TheVariants.{ProgramLength, MemoryLength}
 use Rattle.text.specs.Output.{Loads, too_much}
 use Rattle.text.specs.Rows.{answer_row}
-use Rattle.text.proofs.Outputs.{alone}
+use Rattle.text.proofs.Outputs.{alone, first_put}
 use Rattle.text.proofs.running.refused.Goals as goal
 
 -- a memory that is too long is always refused
@@ -27,4 +27,4 @@ pub returns-clause-is : goal.returns-clause-is
 returns-clause-is c =
     let t = c.args.text.now in
     let e = rw (c.as_slice-table.ensures.value, c.as_slice-program.ensures.value) at (answered c.as_slice-table.result.now c.as_slice-program.result.now c.sizes.ensures c.load_with.ensures c.into.ensures) in
-    alone (Loads (too_much t.table.items t.program.items)) (c.answered.ensures.is ∙ ap answer_row e) refl
+    alone (Loads (too_much t.table.items t.program.items)) (first_put c.requires c.push_answer.ensures.is ∙ ap answer_row e) refl
