@@ -224,7 +224,11 @@ impl Registers {
         ensures bank { Bank 0 self.new.all }
         ensures is { views 0 self.new.all ≡ registers_of s.now }
     {
-        for r in 0..288 {
+        // the general and the branch registers apart, so that the compiled loops don't ask which it is
+        for r in 0..256 {
+            self.all[r] = Register::entered(s.register(r));
+        }
+        for r in 256..288 {
             self.all[r] = Register::entered(s.register(r));
         }
     }

@@ -7,12 +7,12 @@ use Rattle.ticks.specs.Ticks.{views}
 use Rattle.ticks.proofs.Cells.{views_same, entered_bank}
 use Rattle.ticks.proofs.Registers.enter.Goals as goal
 
-entered : (c : goal.After-loop-r) → views 0 c.loop-r.self.all ≡ registers_of c.args.s.now
+entered : (c : goal.After-loop-r-2) → views 0 c.loop-r-2.self.all ≡ registers_of c.args.s.now
 entered c =
-    views_same 0 c.loop-r.self.all (registers_of c.args.s.now) c.loop-r.invariant.0 (registers_of_length c.requires.sized) (λ k h. c.loop-r.invariant.1 k (omega arith))
+    views_same 0 c.loop-r-2.self.all (registers_of c.args.s.now) c.loop-r-2.invariant.0 (registers_of_length c.requires.sized) (λ k h. c.loop-r-2.invariant.1 k (omega arith))
 
 pub returns-clause-bank : goal.returns-clause-bank
-returns-clause-bank c = entered_bank c.loop-r.self.all (registers_of c.args.s.now) c.loop-r.invariant.0 (entered c) c.requires.by_index
+returns-clause-bank c = entered_bank c.loop-r-2.self.all (registers_of c.args.s.now) c.loop-r-2.invariant.0 (entered c) c.requires.by_index
 
 pub returns-clause-is : goal.returns-clause-is
 returns-clause-is c = entered c
