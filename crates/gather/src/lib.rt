@@ -447,13 +447,20 @@ impl Before<'_> {
         ensures { Does (op_late self.now.t.0 self.now.registers.now.all (decode c w)) self.now.delays self.now.memory.now self.now.end.0 (fire_at self.now.registers.now.all (decode c w))
             s scratch.old result scratch.new }
     {
-        match opcode(w) {
-            0 => self.decide(decode::still(w), s),
-            1..=51 => self.computes(decode::compute(c, w), s, scratch),
-            52..=59 => self.accesses(decode::access(c, w), s, scratch),
-            60 => self.copies(decode::copy(c, w), s, scratch),
-            _ => self.turns(decode::jump(c, w), s),
+        let o = opcode(w);
+        if o == 0 {
+            return self.decide(decode::still(w), s);
         }
+        if o <= 51 {
+            return self.computes(decode::compute(c, w), s, scratch);
+        }
+        if o <= 59 {
+            return self.accesses(decode::access(c, w), s, scratch);
+        }
+        if o <= 60 {
+            return self.copies(decode::copy(c, w), s, scratch);
+        }
+        self.turns(decode::jump(c, w), s)
     }
 
     // All operations of the instruction of this stretch, and scratch holds their results and stores.
