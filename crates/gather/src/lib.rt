@@ -438,8 +438,8 @@ impl Before<'_> {
 
     // ---- the pass
 
-    // Syllable w of cluster c. It is decoded and done by the range of its opcode, so that the compiled code tests it once. Opcode 0 names no
-    // register, so that nothing is asked.
+    // Syllable w of cluster c. It is decoded and done by the range of its opcode, so that the compiled code tests it once; by ifs in the order of
+    // the opcodes, since by one match the loops miss "not slower by 5 %" (docs/DECISIONS.md). Opcode 0 names no register, so that nothing is asked.
     fn step(&self, c: u32, w: u32, s: Seen, scratch: &mut Scratch) -> Seen
         requires c_bound { c < 4 }
         requires holds { Holds (length self.now.memory.now) scratch.old }
