@@ -39,7 +39,7 @@ extern "C" {
 #define VEX_VERSION 3
 
 /* Stack that a call may use, with room to spare: VEX_ASSEMBLE_STACK_BYTES for vex_assemble, which keeps the labels of a text there, and
- * VEX_STACK_BYTES for the others. On x86-64 the most that was measured is 30,888 bytes, in run, and 91,816 in assemble. On Arm and other processors
+ * VEX_STACK_BYTES for the others. On x86-64 the most that was measured is 30,888 bytes, in run, and 91,832 in assemble. On Arm and other processors
  * nothing was measured, as the archive is for x86-64 alone; it is assumed that a library made for them uses at most twice as much. */
 #if defined(__x86_64__)
 #define VEX_STACK_BYTES 32768
