@@ -129,8 +129,8 @@ fn item_at(line: &[u8], at: usize, front: Front, k: u8) -> Option<Step>
     }
 }
 
-// An item's bits and expression after what was gathered; the first expression counts. In its place, and only where there is one: a copy of the
-// whole for each item made assemble a quarter slower.
+// An item's bits and expression after what was gathered; the first expression counts. In its place, and only where there is one: with a copy of the
+// whole for each item assemble took a tenth longer.
 fn join(o: &mut Operation, s: Step)
     requires { o.old.bits + s.adds < 2 ^ 32 }
     ensures { o.new ≡ joined_by o.old s }
